@@ -1,0 +1,15 @@
+//! The model of the unknown component equation: its letters, words and scopes, composition, the safe words and the
+//! largest solution, all in `specs/`, and the plain data that files are read to.
+//! The theory is that of Villa, Yevtushenko, Brayton, Mishchenko, Petrenko and Sangiovanni-Vincentelli, "The Unknown
+//! Component Problem" (Springer 2012).
+#![tactic(auto)]
+
+mod class;
+mod letter;
+mod listed;
+mod text_fault;
+
+pub use class::{Class, Mode};
+pub use letter::{Letter, ValueSet, Word};
+pub use listed::{Listed, ListedRow, ListedVar};
+pub use text_fault::{TextFault, TextKind, Which};
