@@ -1,0 +1,4 @@
+pub mod Entries
+pub mod Joins
+pub mod Written
+pub mod Meaning
