@@ -1,0 +1,9 @@
+pub mod Determinise
+pub mod Examples
+pub mod Letters
+pub mod Marks
+pub mod Members
+pub mod Pairs
+pub mod Places
+pub mod Product
+pub mod SafeWords

@@ -1,0 +1,4 @@
+pub mod Examples
+pub mod Letters
+pub mod Marks
+pub mod Pairs
