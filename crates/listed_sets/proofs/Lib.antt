@@ -1,0 +1,4 @@
+pub mod Binary
+pub mod Lists
+pub mod Members
+pub mod SamePairs
