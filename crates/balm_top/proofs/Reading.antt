@@ -1,0 +1,29 @@
+use Rattle.std.proofs.Common.{◌≡◌, ℕ, List, Option, Some, Result, Ok, Err, IfOk, IfErr}
+use Rattle.io_core.specs.Files.{Files}
+use Rattle.net_model.specs.Listings.{Listing, listing_of}
+use Rattle.net_model.specs.Printed.{IsPrintable}
+use Rattle.listed_solve.specs.declared.solve.Solution.{Solution}
+use Rattle.balm_top.specs.Jobs.{Job, topology_of}
+use Rattle.balm_top.specs.Refusals.{AreRead}
+use Rattle.balm_top.specs.Stops.{StopsRightly, StopsWork, IsWorkable, IsSolved, SolvesRightly}
+use Rattle.balm_top.specs.declared.stop.Stop.{Stop}
+use Rattle.balm_top.proofs.Stopped.{stops_work}
+
+-- What the work on two files that are read says of the words and the files.
+module _ (words : List (List ℕ)) (holds : Option Files) (job : Job) (f s : Listing) (read : (files : Files) → holds ≡ Some files → AreRead words files job f s) where
+  pub solves_rightly : (result : Result Solution Stop) → IfOk result (λ solution. IsPrintable (listing_of solution.auto)) → IfOk result (λ solution. IsWorkable job f s × IsSolved (topology_of job f.vars s.vars) f s solution) → IfOk result (SolvesRightly words holds)
+  solves_rightly (Ok solution) printable solved = (
+    printable,
+    λ files held. record {
+      job = job;
+      f = f;
+      s = s;
+      problem = record { read = read files held; names = solved.0.0; small = solved.0.1 };
+      solved = solved.1;
+    },
+  )
+  solves_rightly (Err stop) printable solved = tt
+
+  pub stops_rightly : (faults faults' : List ℕ → ℕ) (result : Result Solution Stop) → IfErr result (StopsWork job f s) → IfErr result (StopsRightly words holds faults faults')
+  stops_rightly faults faults' (Ok solution) stopped = tt
+  stops_rightly faults faults' (Err stop) stopped = stops_work words holds faults faults' job f s read stop stopped

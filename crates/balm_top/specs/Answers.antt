@@ -1,0 +1,116 @@
+use Rattle.std.specs.Prelude.{◌≡◌, ◌≢◌, ◌≤◌, ◌↔◌, ◌⊎◌, ℕ, List, [], ◌∷◌, ◌++◌, length, take, codes, Option, Some}
+use Rattle.io_core.specs.Files.{Files}
+use Rattle.io_core.specs.Causes.{Rose}
+use Rattle.io_core.specs.Gained.{gained, GainsFrontOf}
+use Rattle.net_model.specs.Words.{Word, Language}
+use Rattle.net_model.specs.Equation.{Topology, IsSafe, InLargest, IsLargestSolution}
+use Rattle.net_model.specs.Listings.{Listing, ListingWords}
+use Rattle.net_model.specs.Printed.{Means}
+use Rattle.net_model.specs.declared.class.Class.{Class}
+use Rattle.net_model.specs.declared.class.Class.TheVariants.{All}
+use Rattle.balm_top.specs.Jobs.{Job, IsJob, topology_of}
+use Rattle.balm_top.specs.Refusals.{Refusal, status_of, line_of, Refuses, IsReached, IsProblem}
+use Rattle.balm_top.specs.Statuses.{IsFinished}
+use Rattle.balm_top.specs.declared.status.Status.{Status}
+use Rattle.balm_top.specs.declared.status.Status.TheVariants.{Done, Negative, Usage, Refused, Limit, NodeLimit, ReadFault, WriteFault, Memory}
+
+-- the text, read by its format, has exactly the words of the largest solution of the class
+abbrev pub IsLargestText : Class → Topology → Language → Language → List ℕ → Type 0
+IsLargestText class topology F S text =
+    (x : Word) → Means text topology.x x ↔ InLargest class topology (IsSafe topology F S) x
+
+-- positive exactly where the language has a word
+abbrev pub IsVerdict : Status → Language → Type 0
+IsVerdict Done L = (x : Word) × L x
+IsVerdict Negative L = (x : Word) → L x → ⊥
+IsVerdict Usage L = ⊥
+IsVerdict Refused L = ⊥
+IsVerdict Limit L = ⊥
+IsVerdict NodeLimit L = ⊥
+IsVerdict ReadFault L = ⊥
+IsVerdict WriteFault L = ⊥
+IsVerdict Memory L = ⊥
+
+-- The answer to a job of `solve`: nothing is refused; the text means exactly the largest solution; composed with F it
+-- stays inside S, and each word of each automaton that is a solution is a word of it; and the status is the verdict.
+pub record IsAnswer (words : List (List ℕ)) (files : Files) (status : Status) (text : List ℕ) : Type 0 where
+  pub job : Job
+  pub f : Listing
+  pub s : Listing
+  pub problem : IsProblem words files job f s
+  pub exact : IsLargestText All (topology_of job f.vars s.vars) (ListingWords f) (ListingWords s) text
+  pub solution : IsLargestSolution All (topology_of job f.vars s.vars) (ListingWords f) (ListingWords s) (Means text (topology_of job f.vars s.vars).x)
+  pub verdict : IsVerdict status (Means text (topology_of job f.vars s.vars).x)
+
+-- Where the job was done, the shelf tells what it holds and out what it took, out has gained one text, the answer.
+abbrev pub SolveIsExact : List (List ℕ) → Option Files → Option (List ℕ) → Option (List ℕ) → Status → Type 0
+SolveIsExact words holds old new status =
+    IsFinished status
+    → (files : Files)
+    → holds ≡ Some files
+    → (text : List ℕ) × (new ≡ gained old text) × IsAnswer words files status text
+
+-- err has gained the line, or a front of it where a count of its own rose
+abbrev pub IsTold : Option (List ℕ) → Option (List ℕ) → ℕ → ℕ → ℕ → ℕ → List ℕ → Type 0
+IsTold old new faults faults' wants wants' line =
+    (new ≡ gained old line) ⊎ (GainsFrontOf old new line × (Rose faults faults' ⊎ Rose wants wants'))
+
+-- a status of a refusal
+abbrev pub IsRefused : Status → Type 0
+IsRefused status = (refusal : Refusal) × (status_of refusal ≡ status)
+
+-- Where the status is that of a refusal, one has come, its line was told, and the words and the files are refused so.
+abbrev pub RefusedRightly : List (List ℕ) → Option Files → (List ℕ → Type 0) → Status → Type 0
+RefusedRightly words holds Told status =
+    IsRefused status
+    → (refusal : Refusal)
+    × (status_of refusal ≡ status)
+    × Told (line_of refusal)
+    × ((files : Files) → holds ≡ Some files → Refuses words files refusal)
+
+-- Where a file cannot be read, it is one of the job's whose step is reached, its line was told, and the shelf's count of
+-- faults of its name rose.
+abbrev pub ReadFaultRightly : List (List ℕ) → Option Files → (List ℕ → ℕ) → (List ℕ → ℕ) → (List ℕ → Type 0) → Status → Type 0
+ReadFaultRightly words holds faults faults' Told status =
+    status ≡ ReadFault
+    → (job : Job)
+    × (name : List ℕ)
+    × IsJob words job
+    × ((name ≡ job.f) ⊎ (name ≡ job.s))
+    × Rose (faults name) (faults' name)
+    × Told (codes "balm: cannot read " ++ name ++ codes "\n")
+    × ((files : Files) → holds ≡ Some files → IsReached files job name)
+
+-- Where the answer cannot be written, out's count of faults rose, and the line was told.
+abbrev pub WriteFaultRightly : ℕ → ℕ → (List ℕ → Type 0) → Status → Type 0
+WriteFaultRightly faults faults' Told status =
+    status ≡ WriteFault → Rose faults faults' × Told (codes "balm: cannot write\n")
+
+-- out is as before, but where an answer was begun
+abbrev pub KeepsOut : Option (List ℕ) → Option (List ℕ) → Status → Type 0
+KeepsOut old new Done = Unit {0}
+KeepsOut old new Negative = Unit {0}
+KeepsOut old new Usage = new ≡ old
+KeepsOut old new Refused = new ≡ old
+KeepsOut old new Limit = new ≡ old
+KeepsOut old new NodeLimit = new ≡ old
+KeepsOut old new ReadFault = new ≡ old
+KeepsOut old new WriteFault = Unit {0}
+KeepsOut old new Memory = Unit {0}
+
+-- a status that ends the job while its answer is written
+abbrev pub IsCutShort : Status → Type 0
+IsCutShort status = (status ≡ WriteFault) ⊎ (status ≡ Memory)
+
+-- Where the writing was cut short, out has gained nothing, or a front of the answer's text.
+abbrev pub GainsFrontOfAnswer : List (List ℕ) → Option Files → Option (List ℕ) → Option (List ℕ) → Status → Type 0
+GainsFrontOfAnswer words holds old new status =
+    IsCutShort status
+    → (new ≡ old)
+    ⊎ ((files : Files)
+    → holds ≡ Some files
+    → (text : List ℕ)
+    × (verdict : Status)
+    × IsFinished verdict
+    × GainsFrontOf old new text
+    × IsAnswer words files verdict text)

@@ -1,0 +1,6 @@
+pub mod Answers
+pub mod Jobs
+pub mod Refusals
+pub mod Statuses
+pub mod Stops
+pub mod Words

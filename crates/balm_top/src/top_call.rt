@@ -1,0 +1,88 @@
+//! The top call.
+
+ghost use Rattle.std.specs.Prelude.{◌≡◌, ℕ, codes};
+ghost use Rattle.balm_top.specs.Answers.{SolveIsExact, IsTold, RefusedRightly, ReadFaultRightly, WriteFaultRightly, KeepsOut, GainsFrontOfAnswer};
+ghost use Rattle.balm_top.specs.Jobs.{HasNoJob};
+ghost use Rattle.balm_top.specs.Statuses.{IsFinished};
+ghost use Rattle.balm_top.specs.Stops.{AnswersRightly, MeansSolution};
+ghost use Rattle.net_model.specs.Listings.{listing_of};
+ghost use Rattle.net_model.specs.Printed.{IsPrintable};
+
+use crate::args::Args;
+use crate::problem::solution_of;
+use crate::status::Status;
+use crate::stop::tell;
+use aut_format::write_listed;
+use io_core::{Shelf, Sink, WriteFault};
+use listed_solve::Solution;
+use std::alloc::Global;
+
+/// Does all that the program does. `words` are the words after the program's name; files come from `shelf`, the answer
+/// goes to `out`, and the line of a refusal to `err`.
+pub fn run<H: Shelf, O: Sink, E: Sink>(
+    alloc: Global,
+    words: &Args,
+    shelf: &mut H,
+    out: &mut O,
+    err: &mut E,
+) -> Status
+    // What is printed means exactly the largest solution.
+    ensures exact { SolveIsExact words.now (H.holds shelf.old) (O.contents out.old) (O.contents out.new) result }
+
+    // Every other status has its cause, and its line was told.
+    ensures usage { result ≡ Status.Usage → HasNoJob words.now }
+    ensures refused { RefusedRightly words.now (H.holds shelf.old)
+        (IsTold (E.contents err.old) (E.contents err.new) (E.faults err.old) (E.faults err.new) (E.wants err.old) (E.wants err.new))
+        result }
+    ensures read_fault { ReadFaultRightly words.now (H.holds shelf.old) (H.faults shelf.old) (H.faults shelf.new)
+        (IsTold (E.contents err.old) (E.contents err.new) (E.faults err.old) (E.faults err.new) (E.wants err.old) (E.wants err.new))
+        result }
+    ensures write_fault { WriteFaultRightly (O.faults out.old) (O.faults out.new)
+        (IsTold (E.contents err.old) (E.contents err.new) (E.faults err.old) (E.faults err.new) (E.wants err.old) (E.wants err.new))
+        result }
+    ensures memory { result ≡ Status.Memory
+        → IsTold (E.contents err.old) (E.contents err.new) (E.faults err.old) (E.faults err.new) (E.wants err.old) (E.wants err.new)
+        (codes "balm: out of memory\n") }
+    ensures no_node_limit { result ≡ Status.NodeLimit → ⊥ }
+
+    // What out and err have gained.
+    ensures out_kept { KeepsOut (O.contents out.old) (O.contents out.new) result }
+    ensures out_front { GainsFrontOfAnswer words.now (H.holds shelf.old) (O.contents out.old) (O.contents out.new) result }
+    ensures err_kept { IsFinished result → E.contents err.new ≡ E.contents err.old }
+    ensures held { H.holds shelf.new ≡ H.holds shelf.old }
+{
+    match solution_of(alloc, words, shelf) {
+        Ok(solution) => answer(alloc, &solution, out, err),
+        Err(stop) => {
+            stop.tell(err);
+            stop.status()
+        }
+    }
+}
+
+/// Prints the solution.
+fn answer<O: Sink, E: Sink>(alloc: Global, solution: &Solution, out: &mut O, err: &mut E) -> Status
+    requires { IsPrintable (listing_of solution.now.auto) }
+    ensures meaning { MeansSolution solution.now }
+    ensures answers { AnswersRightly solution.now (O.contents out.old) (O.contents out.new) (O.faults out.old) (O.faults out.new)
+        (IsTold (E.contents err.old) (E.contents err.new) (E.faults err.old) (E.faults err.new) (E.wants err.old) (E.wants err.new))
+        (E.contents err.new ≡ E.contents err.old) result }
+{
+    match write_listed(alloc, &solution.auto, out) {
+        Ok(()) => {
+            if solution.has_word {
+                Status::Done
+            } else {
+                Status::Negative
+            }
+        }
+        Err(WriteFault::Failed) => {
+            tell(err, b"balm: cannot write\n", "", b"");
+            Status::WriteFault
+        }
+        Err(WriteFault::Memory) => {
+            tell(err, b"balm: out of memory\n", "", b"");
+            Status::Memory
+        }
+    }
+}
