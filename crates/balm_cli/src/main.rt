@@ -8,17 +8,23 @@ use balm_top::{Args, Status, run};
 use disk_shelf::DiskShelf;
 use std::alloc::Global;
 use std::env;
-use std::io::{self, ErrorKind, Stderr};
+use std::io::{self, ErrorKind, Stderr, Stdout};
 use std::process::ExitCode;
 use std::rt::Env;
 use stream_sink::StreamSink;
 
+/// Standard output as a sink.
+type OutSink = StreamSink<Stdout>;
+
+/// Standard error as a sink.
+type ErrSink = StreamSink<Stderr>;
+
 fn main(rt: HostRuntime) -> ExitCode {
-    let mut err = StreamSink::new(rt.stderr());
+    let mut err: ErrSink = StreamSink::new(rt.stderr());
     let status = match words(&rt, rt.alloc()) {
         Ok(words) => {
             let mut shelf = DiskShelf::new(&rt);
-            let mut out = StreamSink::new(rt.stdout());
+            let mut out: OutSink = StreamSink::new(rt.stdout());
             run(rt.alloc(), &words, &mut shelf, &mut out, &mut err)
         }
         Err(fault) => refuse_words(&fault, &mut err),
@@ -36,7 +42,7 @@ fn words<R: Env + AllocGlobal>(rt: &R, alloc: Global) -> io::Result<Args> {
 }
 
 /// Words that can't be had as text name no job.
-fn refuse_words(fault: &io::Error, err: &mut StreamSink<Stderr>) -> Status {
+fn refuse_words(fault: &io::Error, err: &mut ErrSink) -> Status {
     if fault.kind() == ErrorKind::OutOfMemory {
         stream_sink::tell(err, b"balm: out of memory\n");
         Status::Memory
