@@ -1,0 +1,6 @@
+pub mod LogicalLines
+pub mod Signs
+pub mod Tokens
+pub mod Forward
+pub mod Spans
+pub mod InOrder
