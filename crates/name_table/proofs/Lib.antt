@@ -1,0 +1,4 @@
+pub mod Apart
+pub mod Chosen
+pub mod Found
+pub mod Shown

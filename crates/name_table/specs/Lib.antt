@@ -1,0 +1,3 @@
+pub mod Causes
+pub mod ScopeVars
+pub mod Variables
