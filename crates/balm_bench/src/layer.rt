@@ -1,0 +1,72 @@
+//! The layers that can be tried, each by its name, and what is asked of one.
+
+ghost use Rattle.std.specs.Prelude.{◌≡◌, ◌≢◌, IfSome, IfNone, OnSome};
+ghost use Rattle.balm_bench.specs.declared.layer.Layer.{Layer};
+ghost use Rattle.balm_bench.specs.LayerNames.{name_of};
+
+use std::fmt;
+
+/// A layer whose cost is shown.
+#[derive(Clone, Copy, Debug, PartialEq, Eq)]
+pub enum Layer {
+    /// The logical lines and words of a text.
+    Lines,
+
+    /// A table of names and their values.
+    Names,
+
+    /// The node table of the diagrams.
+    Nodes,
+}
+
+impl Layer {
+    const ALL: [Layer; 3] = [Layer::Lines, Layer::Names, Layer::Nodes];
+
+    /// The word that names it.
+    pub fn name(self) -> &'static str
+        ensures { result.now ≡ name_of self }
+    {
+        match self {
+            Layer::Lines => "lines",
+            Layer::Names => "names",
+            Layer::Nodes => "nodes",
+        }
+    }
+
+    /// The layer that a word names.
+    pub fn named(word: &str) -> Option<Layer>
+        ensures found { IfSome result (λ layer. name_of layer ≡ word.now) }
+        ensures unknown { IfNone result ((layer : Layer) → name_of layer ≢ word.now) }
+    {
+        for layer in Layer::ALL {
+            if layer.name() == word {
+                return Some(layer);
+            }
+        }
+        None
+    }
+}
+
+impl fmt::Display for Layer {
+    fn fmt<W: fmt::Write>(&self, f: &mut fmt::Formatter<W>) -> fmt::Result {
+        write!(f, "{}", self.name())
+    }
+}
+
+/// A layer, and how large its work is to be.
+#[derive(Clone, Copy, Debug, PartialEq, Eq)]
+pub struct Job {
+    pub layer: Layer,
+    pub size: u32,
+}
+
+impl Job {
+    /// The job that two words name: a layer, and a size as a decimal number.
+    pub fn named(layer: &str, size: &str) -> Option<Job>
+        ensures { IfSome result (λ job. name_of job.layer ≡ layer.now) }
+    {
+        let layer = Layer::named(layer)?;
+        let size = size.parse::<u32>().ok()?;
+        Some(Job { layer, size })
+    }
+}

@@ -1,0 +1,70 @@
+//! The program that shows what each layer costs: `balm_bench LAYER SIZE ..` does the work of each layer at its size,
+//! checks what it counted, and prints the counts.
+#![tactic(auto)]
+
+mod fault;
+mod layer;
+mod lines;
+mod names;
+mod nodes;
+
+ghost use Rattle.std.specs.Prelude.{◌<◌, vec_len, IfOk};
+
+use anyhow::{Context, Result, bail};
+use layer::{Job, Layer};
+use std::alloc::Global;
+use std::env;
+use std::rt::Env;
+
+/// What is told of words that name no jobs.
+const USAGE: &str = "usage: balm_bench LAYER SIZE .. (a layer is lines, names or nodes)";
+
+fn main(rt: HostRuntime) -> Result<()> {
+    let words = words(&rt, rt.alloc())?;
+    let jobs = jobs(rt.alloc(), words.as_slice())?;
+    for job in &jobs {
+        run(&rt, rt.alloc(), job).context(format_args!("{} {}", job.layer, job.size))?;
+    }
+    Ok(())
+}
+
+/// The words after the program's name.
+fn words<R: Env + AllocGlobal>(rt: &R, alloc: Global) -> Result<Vec<String>> {
+    let mut words = Vec::new(alloc);
+    for word in env::args(rt)?.skip(1) {
+        words.push(word)?;
+    }
+    Ok(words)
+}
+
+/// The jobs that the words name, a layer and a size each.
+fn jobs(alloc: Global, words: &[String]) -> Result<Vec<Job>>
+    ensures { IfOk result (λ jobs. 0 < vec_len jobs) }
+{
+    let mut jobs = Vec::new(alloc);
+    for pair in words.chunks(2) {
+        let job = match pair {
+            [layer, size] => Job::named(layer.as_str(), size.as_str()),
+            _ => None,
+        };
+        let Some(job) = job else {
+            bail!("{USAGE}");
+        };
+        jobs.push(job)?;
+    }
+    if jobs.is_empty() {
+        bail!("{USAGE}");
+    }
+    Ok(jobs)
+}
+
+/// Does the work of a job and prints what was counted.
+fn run(rt: &impl Print, alloc: Global, job: &Job) -> Result<()> {
+    let size = job.size;
+    match job.layer {
+        Layer::Lines => println!(rt; "lines {size}: {}", lines::count_lines(alloc, size)?)?,
+        Layer::Names => println!(rt; "names {size}: {}", names::count_names(alloc, size)?)?,
+        Layer::Nodes => println!(rt; "nodes {size}: {}", nodes::count_nodes(alloc, size)?)?,
+    }
+    Ok(())
+}
