@@ -2,6 +2,7 @@ use Rattle.std.specs.Prelude.{ℕ, Bool, true, ◌&&◌, not, List, [], ◌∷�
 use Rattle.std.specs.Str.{bytes_eq}
 use Rattle.std.specs.List.{list_any, list_all}
 use Rattle.net_model.specs.Words.{Variable, Scope}
+pub use Rattle.name_table.specs.Variables.{are_different}
 use Rattle.net_model.specs.Equation.{Topology}
 use Rattle.net_model.specs.declared.class.Mode.TheVariants.{Sync}
 
@@ -28,10 +29,6 @@ sync_topology f s ins outs = record {
   x = map (variable_named (joint_scope f s)) (ins ++ outs);
   inputs = length ins;
 }
-
-abbrev pub are_different : List (List ℕ) → Bool
-are_different [] = true
-are_different (name ∷ names) = not (list_any (bytes_eq name) names) && are_different names
 
 -- the names of X's variables are names of variables of F or S, and no name stands twice
 abbrev pub are_good_names : Scope → List (List ℕ) → List (List ℕ) → Bool

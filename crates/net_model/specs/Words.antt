@@ -1,9 +1,6 @@
 use Rattle.std.specs.Prelude.{◌≡◌, ◌<◌, ℕ, List, [], ◌∷◌, ◌++◌, length}
-
 -- A variable has a name and a domain, the list of its value names. A value is a place in that list.
-pub record Variable : Type 0 where
-  pub name : List ℕ
-  pub values : List (List ℕ)
+pub use Rattle.name_table.specs.Variables.{Variable}
 
 -- A scope is a list of variables.
 abbrev pub Scope : Type 0
