@@ -100,6 +100,11 @@ impl Space {
         self.limit
     }
 
+    /// The allocator of the space.
+    pub fn allocator(&self) -> Global {
+        *self.held.allocator()
+    }
+
     /// `Ref::ZERO`, with what is known of it here.
     pub fn zero(&self) -> Ref
         ensures { IsConstant self.now false result }

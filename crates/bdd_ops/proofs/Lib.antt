@@ -1,0 +1,8 @@
+pub mod Choices
+pub mod Memos
+pub mod Members
+pub mod Hiding
+pub mod Maps
+pub mod Renamed
+pub mod Bits
+pub mod Missing

@@ -1,0 +1,12 @@
+use Rattle.std.proofs.Common.{◌||◌, if◌then◌else◌}
+use Rattle.node_table.specs.Table.{Table, value_at}
+use Rattle.bdd_ops.proofs.Choices.{or-ite}
+use Rattle.bdd_ops.proofs.Missing.{missing-same}
+use Rattle.bdd_ops.proofs.connectives.or.Goals as goal
+
+pub returns-clause-needed : goal.returns-clause-needed
+returns-clause-needed c full =
+    let old : Table = c.args.space.now in
+    missing-same c.ite.new.space (λ bits. if value_at old c.args.f bits then value_at old c.one-one.result bits else value_at old c.args.g bits) (λ bits. value_at old c.args.f bits || value_at old c.args.g bits)
+    (λ bits. or-ite (value_at old c.args.f bits) (value_at old c.args.g bits) (value_at old c.one-one.result bits) (c.one-one.ensures.value bits))
+    (c.ite.ensures.needed full)

@@ -1,0 +1,4 @@
+pub mod Meaning
+pub mod Levels
+pub mod Words
+pub mod Recursion
