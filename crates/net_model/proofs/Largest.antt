@@ -1,7 +1,7 @@
-use Rattle.std.proofs.Common.{◌≡◌, ◌↔◌, refl, sym, subst}
+use Rattle.std.proofs.Common.{◌↔◌, refl, sym, subst}
 use Rattle.net_model.specs.Words.{Word, Language}
 use Rattle.net_model.specs.Automata.{WordsOf}
-use Rattle.net_model.specs.Equation.{Topology, part, IsSafe, StaysInside, IsOver, IsSolution, IsLargestSolution}
+use Rattle.net_model.specs.Equation.{Topology, part, IsSafe, StaysInside, IsOver, IsLargestSolution}
 use Rattle.net_model.specs.declared.class.Class.TheVariants.{All}
 
 -- The words of a language that are all safe, and the safe words of a language, in either mode.

@@ -1,7 +1,15 @@
 pub mod Automata
+pub mod Conditions
 pub mod Equation
+pub mod Faults
+pub mod Forms
 pub mod Listings
+pub mod NetTexts
+pub mod Nets
 pub mod Parts
 pub mod Printed
+pub mod SoundNets
+pub mod Spellings
+pub mod Tables
 pub mod Topologies
 pub mod Words

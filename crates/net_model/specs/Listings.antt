@@ -1,6 +1,6 @@
-use Rattle.std.specs.Prelude.{◌≡◌, ◌==◌, ℕ, Bool, true, false, ◌&&◌, IsTrue, List, [], ◌∷◌, map, Contains, slice_index_or}
+use Rattle.std.specs.Prelude.{◌==◌, ℕ, Bool, true, false, ◌&&◌, IsTrue, List, [], ◌∷◌, map, Contains, slice_index_or}
 use Rattle.std.specs.List.{list_any}
-use Rattle.net_model.specs.Words.{Variable, Scope, Letter, Word, Language}
+use Rattle.net_model.specs.Words.{Variable, Scope, Letter, Language}
 use Rattle.net_model.specs.Automata.{LanguageOf}
 use Rattle.net_model.specs.declared.listed.ListedVar.{ListedVar}
 use Rattle.net_model.specs.declared.listed.ListedRow.{ListedRow}

@@ -1,6 +1,6 @@
-use Rattle.std.specs.Prelude.{ℕ, ◌<◌, List, [], ◌∷◌, map, if◌then◌else◌, Option, Some, None, slice_index_or, position}
+use Rattle.std.specs.Prelude.{ℕ, List, [], ◌∷◌, map, if◌then◌else◌, Option, Some, None, slice_index_or, position}
 use Rattle.std.specs.Str.{bytes_eq}
-use Rattle.net_model.specs.Words.{Variable, Scope, Letter, Word}
+use Rattle.net_model.specs.Words.{Scope, Letter, Word}
 use Rattle.net_model.specs.declared.class.Mode.{Mode}
 use Rattle.net_model.specs.declared.class.Mode.TheVariants.{Sync, Parallel}
 

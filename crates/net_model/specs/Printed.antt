@@ -1,4 +1,4 @@
-use Rattle.std.specs.Prelude.{◌≡◌, ◌≢◌, ◌<◌, ◌≤◌, ◌+◌, ◌^◌, ◌==◌, ◌&&◌, ◌||◌, nat_le, not, IsTrue, ℕ, Bool, true, false, List, [], ◌∷◌, ◌++◌, length, map, if◌then◌else◌, slice_index, slice_index_or, codes, decimal}
+use Rattle.std.specs.Prelude.{◌≡◌, ◌≢◌, ◌<◌, ◌≤◌, ◌+◌, ◌^◌, ◌==◌, ◌&&◌, ◌||◌, nat_le, IsTrue, ℕ, Bool, List, [], ◌∷◌, ◌++◌, length, map, if◌then◌else◌, slice_index, slice_index_or, codes, decimal}
 use Rattle.std.specs.List.{AllByRecursion, list_all, flat_map, join_with_byte, range_with_len}
 use Rattle.net_model.specs.Words.{Variable, Scope, Language}
 use Rattle.net_model.specs.Listings.{Row, Listing, ListingWords}

@@ -5,11 +5,19 @@
 #![tactic(auto)]
 
 mod class;
+mod directive;
 mod letter;
 mod listed;
+mod name_list;
+mod net;
+#[cfg(test)]
+mod tests;
 mod text_fault;
 
 pub use class::{Class, Mode};
+pub use directive::Directive;
 pub use letter::{Letter, ValueSet, Word};
 pub use listed::{Listed, ListedRow, ListedVar};
+pub use name_list::NameList;
+pub use net::{Entry, File, Latch, Net, Row, Table};
 pub use text_fault::{TextFault, TextKind, Which};

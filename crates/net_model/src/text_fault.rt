@@ -1,5 +1,6 @@
 //! Why a text is refused.
 
+use std::alloc::AllocError;
 use thiserror::Error;
 
 /// A limit of the texts that are read, and of the problem that they make.
@@ -91,4 +92,15 @@ pub enum TextFault {
     At { line: u64, kind: TextKind },
     #[error("out of memory")]
     Memory,
+}
+
+impl From<AllocError> for TextFault {
+    ghost use Rattle.std.specs.Prelude.{◌≡◌};
+    ghost use Rattle.net_model.specs.declared.text_fault.TextFault.TheVariants.{Memory};
+
+    ghost from_gives = { λ error result. result ≡ Memory };
+
+    fn from(_error: AllocError) -> Self {
+        TextFault::Memory
+    }
 }

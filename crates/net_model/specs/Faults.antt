@@ -1,0 +1,10 @@
+use Rattle.std.specs.Prelude.{◌≡◌, Option, Some, None, Result, Ok, Err}
+use Rattle.net_model.specs.declared.text_fault.TextFault.{TextFault}
+use Rattle.net_model.specs.declared.text_fault.TextFault.TheVariants.{At, Memory}
+
+-- What is told of a text whose first fault is known: nothing is refused without a fault, and a refusal is that fault. Want
+-- of memory is free.
+abbrev pub Finds : {T : Type 0} → Result T TextFault → Option TextFault → Type 0
+Finds (Ok x) fault = fault ≡ None
+Finds (Err (At line kind)) fault = fault ≡ Some (At line kind)
+Finds (Err Memory) fault = Unit {0}
