@@ -1,0 +1,7 @@
+use Rattle.std.proofs.Common.{arith}
+use Rattle.blifmv_lines.proofs.Listed.{list_place-short}
+use Rattle.blifmv_lines.proofs.entry.list_place.Goals as goal
+
+-- where fewer than two words are left there is no such place
+pub returns-clause-place : goal.returns-clause-place
+returns-clause-place c = rw (list_place-short c.loop-left.left.now (omega arith)) at c.loop-left.invariant.place

@@ -1,0 +1,3 @@
+pub mod InsOuts
+pub mod Places
+pub mod Said
