@@ -1,0 +1,18 @@
+//! Reads what the lines of a BLIF-MV network say, and the names and domains of its signals: the first of the passes
+//! over the text.
+#![tactic(auto)]
+
+mod first_pass;
+mod giving;
+mod line_fault;
+mod mention;
+mod place;
+mod signal_table;
+mod take_line;
+#[cfg(test)]
+mod tests;
+
+pub use first_pass::read_names;
+pub use line_fault::LineFault;
+pub use place::{Place, Width};
+pub use signal_table::SignalTable;
