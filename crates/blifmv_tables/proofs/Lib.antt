@@ -1,0 +1,4 @@
+pub mod Columns
+pub mod Drafted
+pub mod Passed
+pub mod Read
