@@ -1,0 +1,14 @@
+//! Tests how the signals of a BLIF-MV network are driven, reset and used, and tells the first line with a fault: the third
+//! of the passes over the text.
+#![tactic(auto)]
+
+mod above;
+mod line;
+mod lookup;
+mod sets;
+#[cfg(test)]
+mod tests;
+mod third_pass;
+mod whole;
+
+pub use third_pass::check_signals;
