@@ -1,0 +1,4 @@
+pub mod Entries
+pub mod Signals
+pub mod Sound
+pub mod Stands

@@ -1,0 +1,5 @@
+use Rattle.blifmv_reader.proofs.Stands.{one_net}
+use Rattle.blifmv_reader.proofs.network.bytes_stand_for_one_net.Goals as goal
+
+pub returns : goal.returns
+returns c = one_net
