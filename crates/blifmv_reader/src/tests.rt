@@ -272,13 +272,13 @@ fn each_front_of_a_text_is_read(rt: HostRuntime) -> Result<(), Fail> {
     let alloc = rt.alloc();
     let text =
         "# three values\r\n.model mix\r\n.inputs a b\r\n.outputs y z\r\n.mv a,y 3 r g k\r\n.table a \\\r\n  b -> y\r\n.default =a\r\n!( r , g ) 1 r\r\n.table b z\r\n- !0\r\n.end\r\n";
-    let mut networks = 0;
+    let mut networks = Vec::new(alloc);
     for end in 0..text.len() {
         match read_net(alloc, &text.as_bytes()[..end]) {
-            Ok(_) => networks += 1,
+            Ok(_) => networks.push(end)?,
             Err(fault) => assert!(rt; fault != TextFault::Memory, "at {end}"),
         }
     }
-    assert_eq!(rt; networks, 24);
+    assert_eq!(rt; networks.len(), 24);
     Ok(())
 }
