@@ -17,10 +17,34 @@ pub enum Layer {
 
     /// The node table of the diagrams.
     Nodes,
+
+    /// The diagram of a conjunction whose levels are interleaved.
+    Interleaved,
+
+    /// The diagram of the same conjunction with its levels in two blocks.
+    Blocked,
+
+    /// The text of a network with one table of many rows.
+    Rows,
+
+    /// The text of a network with many names that share one domain.
+    Domains,
+
+    /// The text of a network whose names collide in each map.
+    Collisions,
 }
 
 impl Layer {
-    const ALL: [Layer; 3] = [Layer::Lines, Layer::Names, Layer::Nodes];
+    const ALL: [Layer; 8] = [
+        Layer::Lines,
+        Layer::Names,
+        Layer::Nodes,
+        Layer::Interleaved,
+        Layer::Blocked,
+        Layer::Rows,
+        Layer::Domains,
+        Layer::Collisions,
+    ];
 
     /// The word that names it.
     pub fn name(self) -> &'static str
@@ -30,6 +54,11 @@ impl Layer {
             Layer::Lines => "lines",
             Layer::Names => "names",
             Layer::Nodes => "nodes",
+            Layer::Interleaved => "interleaved",
+            Layer::Blocked => "blocked",
+            Layer::Rows => "rows",
+            Layer::Domains => "domains",
+            Layer::Collisions => "collisions",
         }
     }
 

@@ -49,8 +49,8 @@ pub fn count_lines(alloc: Global, rows: u32) -> Result<LineCounts, Fault>
     Ok(counts)
 }
 
-// A text with so many rows.
-fn rows_text(alloc: Global, rows: u32) -> Result<Vec<u8>, AllocError>
+/// The text of a network with one table of so many rows, over five names.
+pub(crate) fn rows_text(alloc: Global, rows: u32) -> Result<Vec<u8>, AllocError>
     ensures { IfOk result (λ text. length text.items ≡ 14 * rows + 64) }
 {
     let mut text = Vec::with_capacity(alloc, HEAD.len() + ROW.len() * rows as usize + TAIL.len())?;

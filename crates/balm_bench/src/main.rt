@@ -2,11 +2,16 @@
 //! checks what it counted, and prints the counts.
 #![tactic(auto)]
 
+mod collisions;
+mod conjunctions;
+mod domains;
 mod fault;
 mod layer;
 mod lines;
 mod names;
 mod nodes;
+mod table_rows;
+mod texts;
 
 ghost use Rattle.std.specs.Prelude.{◌<◌, vec_len, IfOk};
 
@@ -17,7 +22,8 @@ use std::env;
 use std::rt::Env;
 
 /// What is told of words that name no jobs.
-const USAGE: &str = "usage: balm_bench LAYER SIZE .. (a layer is lines, names or nodes)";
+const USAGE: &str =
+    "usage: balm_bench LAYER SIZE .. (a layer is lines, names, nodes, interleaved, blocked, rows, domains or collisions)";
 
 fn main(rt: HostRuntime) -> Result<()> {
     let words = words(&rt, rt.alloc())?;
@@ -65,6 +71,20 @@ fn run(rt: &impl Print, alloc: Global, job: &Job) -> Result<()> {
         Layer::Lines => println!(rt; "lines {size}: {}", lines::count_lines(alloc, size)?)?,
         Layer::Names => println!(rt; "names {size}: {}", names::count_names(alloc, size)?)?,
         Layer::Nodes => println!(rt; "nodes {size}: {}", nodes::count_nodes(alloc, size)?)?,
+        Layer::Interleaved => println!(rt;
+            "interleaved {size}: {}",
+            conjunctions::count_interleaved(alloc, size)?
+        )?,
+        Layer::Blocked => println!(rt;
+            "blocked {size}: {}",
+            conjunctions::count_blocked(alloc, size)?
+        )?,
+        Layer::Rows => println!(rt; "rows {size}: {}", table_rows::count_rows(alloc, size)?)?,
+        Layer::Domains => println!(rt; "domains {size}: {}", domains::count_domains(alloc, size)?)?,
+        Layer::Collisions => println!(rt;
+            "collisions {size}: {}",
+            collisions::count_collisions(alloc, size)?
+        )?,
     }
     Ok(())
 }

@@ -54,8 +54,8 @@ fn values_for(size: u32) -> u32
     }
 }
 
-// The name of a variable.
-fn name_of(alloc: Global, number: u32) -> Result<String, AllocError>
+/// The name of a variable.
+pub(crate) fn name_of(alloc: Global, number: u32) -> Result<String, AllocError>
     ensures { IfOk result (λ name. string_bytes name ≡ codes "x" ++ decimal number) }
 {
     format!(in alloc; "x{number}")
