@@ -26,7 +26,7 @@ use Rattle.blifmv_names.proofs.Gathered.{AreThere, domain_with, domain_behind, g
 
 -- tests
 
-if_none : {T : Type 0} (b : Bool) (kind : T) (more : Option T) → (if b then Some kind else more) ≡ None → (b ≡ false) × (more ≡ None)
+pub if_none : {T : Type 0} (b : Bool) (kind : T) (more : Option T) → (if b then Some kind else more) ≡ None → (b ≡ false) × (more ≡ None)
 if_none true kind more h = cc
 if_none false kind more h = (refl, h)
 
@@ -34,7 +34,7 @@ no_limit : (limit : Option Which) (kind : Option TextKind) → limit_or limit ki
 no_limit None kind h = h
 no_limit (Some which) kind h = cc
 
-no_fault : (kind : Option TextKind) (line : ℕ) (later : Option TextFault) → fault_or kind line later ≡ None → (kind ≡ None) × (later ≡ None)
+pub no_fault : (kind : Option TextKind) (line : ℕ) (later : Option TextFault) → fault_or kind line later ≡ None → (kind ≡ None) × (later ≡ None)
 no_fault None line later h = (refl, h)
 no_fault (Some kind) line later h = cc
 
@@ -42,7 +42,7 @@ not_false : (b : Bool) → not b ≡ false → b ≡ true
 not_false true h = refl
 not_false false h = cc
 
-neither : (a b : Bool) → (a || b) ≡ false → (a ≡ false) × (b ≡ false)
+pub neither : (a b : Bool) → (a || b) ≡ false → (a ≡ false) × (b ≡ false)
 neither true b h = absurd (false≢true (sym h))
 neither false b h = (refl, h)
 
@@ -162,13 +162,13 @@ good_domains place signals (RowLine words) text whole h is = refl
 
 -- the lines behind that of the model
 
-record Says (place : Place) (whole : Name → List Name) (lines : List LogicalLine) (text : List Form) : Type 0 where
-  said : map said_by lines ≡ map Some text
-  spelled : list_all has_names text ≡ true
-  models : list_all (λ line. not (is_model line)) text ≡ true
-  ended : place.ended ≡ true → text ≡ []
-  ends : ends_once text ≡ true
-  domains : list_all (has_domains whole) text ≡ true
+pub record Says (place : Place) (whole : Name → List Name) (lines : List LogicalLine) (text : List Form) : Type 0 where
+  pub said : map said_by lines ≡ map Some text
+  pub spelled : list_all has_names text ≡ true
+  pub models : list_all (λ line. not (is_model line)) text ≡ true
+  pub ended : place.ended ≡ true → text ≡ []
+  pub ends : ends_once text ≡ true
+  pub domains : list_all (has_domains whole) text ≡ true
 
 ends_cons : (form : Form) (text : List Form) → (is_end form ≡ true → text ≡ []) → ends_once text ≡ true → ends_once (form ∷ text) ≡ true
 ends_cons form [] last ends = refl

@@ -1,3 +1,4 @@
+pub mod Backward
 pub mod Faultless
 pub mod Gathered
 pub mod Given
@@ -5,3 +6,4 @@ pub mod Keyed
 pub mod Mentions
 pub mod Placed
 pub mod Taken
+pub mod Within

@@ -4,6 +4,7 @@
 
 mod first_pass;
 mod giving;
+mod laws;
 mod line_fault;
 mod mention;
 mod place;
@@ -13,6 +14,7 @@ mod take_line;
 mod tests;
 
 pub use first_pass::read_names;
+pub use laws::lines_without_fault;
 pub use line_fault::LineFault;
 pub use place::{Place, Width};
 pub use signal_table::SignalTable;
