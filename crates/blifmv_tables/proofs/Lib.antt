@@ -1,4 +1,5 @@
 pub mod Columns
 pub mod Drafted
+pub mod Faultless
 pub mod Passed
 pub mod Read

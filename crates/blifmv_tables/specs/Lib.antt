@@ -1,3 +1,4 @@
 pub mod Drafts
 pub mod Reading
+pub mod RowFaults
 pub mod Saying

@@ -1,12 +1,14 @@
 //! A network as far as the lines above say it.
 
-ghost use Rattle.std.specs.Prelude.{◌≡◌, ◌++◌, [], ◌∷◌, Some, map, true, is_some, IfOk, OnOk};
+ghost use Rattle.std.specs.Prelude.{◌≡◌, ◌++◌, [], ◌∷◌, Some, Err, map, true, is_some, IfOk, OnOk, OnErr};
+ghost use Rattle.net_model.specs.Faults.{Finds};
 ghost use Rattle.net_model.specs.Forms.{RowLine, DefaultLine, LatchLine};
 ghost use Rattle.net_model.specs.Nets.{net_of};
 ghost use Rattle.net_model.specs.Spellings.{row_spelled};
 ghost use Rattle.net_model.specs.NetTexts.{distinct, place_in, places_in, line_stands, default_stands};
 ghost use Rattle.blifmv_lines.specs.Said.{texts, form_said};
 ghost use Rattle.blifmv_tables.specs.Drafts.{nothing_said, closed, opens, row_under, default_at, draft_behind, open_of, net_of_draft, latch_fits};
+ghost use Rattle.blifmv_tables.specs.RowFaults.{fault_at, kind_unless, row_kind, default_kind, line_kind};
 ghost use Rattle.blifmv_tables.specs.Saying.{standing_of, draft_of};
 
 use crate::lookup::{signal_of, signals_of, size_of};
@@ -62,6 +64,7 @@ impl Draft {
         ensures said { IfOk result (λ next. draft_of next ≡ draft_behind names.now (draft_of self) (form_said form.entry)) }
         ensures stands { OnOk result (line_stands names.now (open_of (draft_of self).standing) (form_said form.entry) ≡ true) }
         ensures fits { OnOk result (latch_fits names.now (form_said form.entry) ≡ true) }
+        ensures told { Finds result (fault_at line (line_kind names.now (open_of (draft_of self).standing) (form_said form.entry))) }
     {
         match form {
             Form::Inputs(words) => self.closed()?.with_inputs(alloc, names, words),
@@ -79,7 +82,8 @@ impl Draft {
 
     /// The network of the whole text.
     pub fn finished(self, alloc: Global, names: Names) -> Result<Net, TextFault>
-        ensures { IfOk result (λ net. net_of net ≡ net_of_draft names (draft_of self)) }
+        ensures ok { IfOk result (λ net. net_of net ≡ net_of_draft names (draft_of self)) }
+        ensures err { OnErr result (result ≡ Err TextFault.Memory) }
     {
         let outputs = named_signals(alloc, &names, &self.outputs)?;
         let draft = self.closed()?;
@@ -95,7 +99,8 @@ impl Draft {
 
     // No table stands open any more.
     fn closed(mut self) -> Result<Draft, TextFault>
-        ensures { IfOk result (λ next. draft_of next ≡ closed (draft_of self)) }
+        ensures ok { IfOk result (λ next. draft_of next ≡ closed (draft_of self)) }
+        ensures err { OnErr result (result ≡ Err TextFault.Memory) }
     {
         if let Some(standing) = self.standing.take() {
             if standing.is_reset {
@@ -113,7 +118,8 @@ impl Draft {
         names: &Names,
         words: &[&[u8]],
     ) -> Result<Draft, TextFault>
-        ensures { IfOk result (λ next. draft_of next ≡ record (draft_of self) { inputs = (draft_of self).inputs ++ places_in names.now (texts words.now) }) }
+        ensures ok { IfOk result (λ next. draft_of next ≡ record (draft_of self) { inputs = (draft_of self).inputs ++ places_in names.now (texts words.now) }) }
+        ensures err { OnErr result (result ≡ Err TextFault.Memory) }
     {
         let more = signals_of(alloc, names, words)?;
         self.inputs.extend_from_slice(more.as_slice())?;
@@ -121,7 +127,8 @@ impl Draft {
     }
 
     fn with_outputs(mut self, alloc: Global, words: &[&[u8]]) -> Result<Draft, TextFault>
-        ensures { IfOk result (λ next. draft_of next ≡ record (draft_of self) { outputs = distinct (draft_of self).outputs (texts words.now) }) }
+        ensures ok { IfOk result (λ next. draft_of next ≡ record (draft_of self) { outputs = distinct (draft_of self).outputs (texts words.now) }) }
+        ensures err { OnErr result (result ≡ Err TextFault.Memory) }
     {
         add_names(alloc, &mut self.outputs, words)?;
         Ok(self)
@@ -135,6 +142,7 @@ impl Draft {
         output: &[u8],
     ) -> Result<Draft, TextFault>
         ensures fits { OnOk result (latch_fits names.now (LatchLine input.now output.now) ≡ true) }
+        ensures told { Finds result (fault_at line (kind_unless (latch_fits names.now (LatchLine input.now output.now)) TextKind.EqDomain)) }
         ensures said { IfOk result (λ next. draft_of next ≡ record (draft_of self) { latches = (draft_of self).latches ++ record { input = place_in names.now input.now; output = place_in names.now output.now } ∷ [] }) }
     {
         let latch = Latch {
@@ -160,7 +168,8 @@ impl Draft {
         ins: &[&[u8]],
         outs: &[&[u8]],
     ) -> Result<Draft, TextFault>
-        ensures { IfOk result (λ next. draft_of next ≡ record (draft_of self) { standing = opens is_reset names.now (texts ins.now) (texts outs.now) }) }
+        ensures ok { IfOk result (λ next. draft_of next ≡ record (draft_of self) { standing = opens is_reset names.now (texts ins.now) (texts outs.now) }) }
+        ensures err { OnErr result (result ≡ Err TextFault.Memory) }
     {
         let table = Table {
             ins: signals_of(alloc, names, ins)?,
@@ -181,6 +190,7 @@ impl Draft {
     ) -> Result<Draft, TextFault>
         ensures said { IfOk result (λ next. draft_of next ≡ draft_behind names.now (draft_of self) (RowLine (texts words.now))) }
         ensures stands { OnOk result (line_stands names.now (open_of (draft_of self).standing) (RowLine (texts words.now)) ≡ true) }
+        ensures told { Finds result (fault_at line (row_kind names.now (open_of (draft_of self).standing) (texts words.now))) }
     {
         let Some(standing) = self.standing.take() else {
             return Err(TextFault::At {
@@ -202,6 +212,7 @@ impl Draft {
     ) -> Result<Draft, TextFault>
         ensures said { IfOk result (λ next. draft_of next ≡ draft_behind names.now (draft_of self) (DefaultLine (texts words.now))) }
         ensures stands { OnOk result (line_stands names.now (open_of (draft_of self).standing) (DefaultLine (texts words.now)) ≡ true) }
+        ensures told { Finds result (fault_at line (default_kind names.now (open_of (draft_of self).standing) (texts words.now))) }
     {
         let Some(standing) = self.standing.take() else {
             return Err(TextFault::At {
@@ -226,6 +237,7 @@ impl Standing {
     ) -> Result<Standing, TextFault>
         ensures said { IfOk result (λ next. standing_of next ≡ row_under names.now (texts words.now) (standing_of self)) }
         ensures stands { OnOk result (is_some (row_spelled names.now (standing_of self).table.ins (standing_of self).table.outs (texts words.now)) ≡ true) }
+        ensures told { Finds result (fault_at line (row_kind names.now (open_of (Some (standing_of self))) (texts words.now))) }
     {
         match read_row(
             alloc,
@@ -261,6 +273,7 @@ impl Standing {
     ) -> Result<Standing, TextFault>
         ensures said { IfOk result (λ next. standing_of next ≡ default_at names.now (texts words.now) (standing_of self)) }
         ensures stands { OnOk result (default_stands names.now (Some (record { ins = (standing_of self).table.ins; outs = (standing_of self).table.outs; has_default = is_some (standing_of self).table.otherwise })) (texts words.now) ≡ true) }
+        ensures told { Finds result (fault_at line (default_kind names.now (open_of (Some (standing_of self))) (texts words.now))) }
     {
         if self.table.otherwise.is_some() {
             return Err(TextFault::At {
@@ -281,13 +294,7 @@ impl Standing {
             }
             None => Err(TextFault::At {
                 line,
-                kind: kind_of_default(
-                    alloc,
-                    names,
-                    self.table.ins.as_slice(),
-                    self.table.outs.as_slice(),
-                    words,
-                )?,
+                kind: kind_of_default(alloc, names, self.table.outs.as_slice(), words)?,
             }),
         }
     }

@@ -1,12 +1,14 @@
 //! Rows and defaults, entry by entry.
 
-ghost use Rattle.std.specs.Prelude.{◌≡◌, ◌⊎◌, map, IfOk};
+ghost use Rattle.std.specs.Prelude.{◌≡◌, false, map, IfOk};
 ghost use Rattle.std.specs.Option.{option_map};
 ghost use Rattle.net_model.specs.Nets.{entry_of, row_of};
 ghost use Rattle.net_model.specs.Spellings.{entries_at, row_spelled, default_spelled};
-ghost use Rattle.blifmv_lines.specs.Said.{texts};
+ghost use Rattle.blifmv_lines.specs.Said.{texts, spelled_said};
 ghost use Rattle.blifmv_tables.specs.Reading.{entry_in, AreRead};
+ghost use Rattle.blifmv_tables.specs.RowFaults.{is_equality, is_unknown, some_entry, behind_entries, kind_of_outputs, kind_of_row};
 
+use crate::resolve::input_entry;
 use crate::side::{Side, entry_in};
 use blifmv_lines::{Entries, Spelled};
 use name_table::{Names, VarId};
@@ -91,13 +93,13 @@ pub fn kind_of_row(
     outs: &[VarId],
     words: &[&[u8]],
 ) -> Result<TextKind, AllocError>
-    ensures { IfOk result (λ kind. (kind ≡ TextKind.UnknownValue) ⊎ (kind ≡ TextKind.EqDomain)) }
+    ensures { IfOk result (λ kind. kind ≡ kind_of_row names.now (map (λ v. v.0) ins.now) (map (λ v. v.0) outs.now) (texts words.now)) }
 {
     let mut entries = Entries::new(words);
-    if read_entries(alloc, names, Side::Input, ins, &mut entries)?.is_none() {
+    if some_unknown(alloc, names, false, ins, &mut entries)? {
         return Ok(TextKind::UnknownValue);
     }
-    let kind = kind_of_outputs(alloc, names, ins, outs, &mut entries)?;
+    let kind = kind_of_outputs(alloc, names, outs, &mut entries)?;
     Ok(kind)
 }
 
@@ -105,36 +107,76 @@ pub fn kind_of_row(
 pub fn kind_of_default(
     alloc: Global,
     names: &Names,
-    ins: &[VarId],
     outs: &[VarId],
     words: &[&[u8]],
 ) -> Result<TextKind, AllocError>
-    ensures { IfOk result (λ kind. (kind ≡ TextKind.UnknownValue) ⊎ (kind ≡ TextKind.EqDomain)) }
+    ensures { IfOk result (λ kind. kind ≡ kind_of_outputs names.now (map (λ v. v.0) outs.now) (texts words.now)) }
 {
     let mut entries = Entries::new(words);
-    let kind = kind_of_outputs(alloc, names, ins, outs, &mut entries)?;
+    let kind = kind_of_outputs(alloc, names, outs, &mut entries)?;
     Ok(kind)
 }
 
 fn kind_of_outputs(
     alloc: Global,
     names: &Names,
-    ins: &[VarId],
     outs: &[VarId],
     entries: &mut Entries<'_, '_>,
 ) -> Result<TextKind, AllocError>
-    ensures { IfOk result (λ kind. (kind ≡ TextKind.UnknownValue) ⊎ (kind ≡ TextKind.EqDomain)) }
+    ensures { IfOk result (λ kind. kind ≡ kind_of_outputs names.now (map (λ v. v.0) outs.now) entries.old) }
 {
-    for column in outs {
-        match entries.next_entry() {
-            Some(Spelled::Same(_)) => {}
-            Some(spelled) => {
-                if entry_in(alloc, names, Side::Output(ins), *column, spelled)?.is_none() {
-                    return Ok(TextKind::UnknownValue);
-                }
-            }
-            None => return Ok(TextKind::EqDomain),
-        }
+    if some_unknown(alloc, names, true, outs, entries)? {
+        Ok(TextKind::UnknownValue)
+    } else {
+        Ok(TextKind::EqDomain)
     }
-    Ok(TextKind::EqDomain)
+}
+
+// Whether one of the entries of these columns names no value. The entries go on behind those that do.
+fn some_unknown(
+    alloc: Global,
+    names: &Names,
+    at_output: bool,
+    columns: &[VarId],
+    entries: &mut Entries<'_, '_>,
+) -> Result<bool, AllocError>
+    ensures is { IfOk result (λ is. is ≡ some_entry (is_unknown names.now at_output) (map (λ v. v.0) columns.now) entries.old) }
+    ensures behind { IfOk result (λ is. is ≡ false → entries.new ≡ behind_entries (map (λ v. v.0) columns.now) entries.old) }
+{
+    let mut left = columns;
+    while let [column, more @ ..] = left {
+        let Some(spelled) = entries.next_entry() else {
+            return Ok(false);
+        };
+        if is_unknown(alloc, names, at_output, *column, spelled)? {
+            return Ok(true);
+        }
+        left = more;
+    }
+    Ok(false)
+}
+
+fn is_unknown(
+    alloc: Global,
+    names: &Names,
+    at_output: bool,
+    column: VarId,
+    spelled: Spelled<'_, '_>,
+) -> Result<bool, AllocError>
+    ensures { IfOk result (λ is. is ≡ is_unknown names.now at_output column.0 (spelled_said spelled.entry)) }
+{
+    if at_output && is_equality(spelled) {
+        return Ok(false);
+    }
+    let entry = input_entry(alloc, names, column, spelled)?;
+    Ok(entry.is_none())
+}
+
+fn is_equality(spelled: Spelled<'_, '_>) -> bool
+    ensures { result ≡ is_equality (spelled_said spelled.entry) }
+{
+    match spelled {
+        Spelled::Same(_) => true,
+        _ => false,
+    }
 }
