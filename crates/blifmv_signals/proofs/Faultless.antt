@@ -29,11 +29,11 @@ All-unfound p P each (x ∷ xs) none =
     let both = neither (p x) (list_any p xs) none in
     All-cons P x xs (each x both.0) (All-unfound p P each xs both.1)
 
-All-left : {X : Type 0} (P : X → Type 0) (xs ys : List X) → All P (xs ++ ys) → All P xs
+pub All-left : {X : Type 0} (P : X → Type 0) (xs ys : List X) → All P (xs ++ ys) → All P xs
 All-left P [] ys all = All-nil P
 All-left P (x ∷ xs) ys all = All-cons P x xs (All-head P x (xs ++ ys) all) (All-left P xs ys (All-tail P x (xs ++ ys) all))
 
-All-right : {X : Type 0} (P : X → Type 0) (xs ys : List X) → All P (xs ++ ys) → All P ys
+pub All-right : {X : Type 0} (P : X → Type 0) (xs ys : List X) → All P (xs ++ ys) → All P ys
 All-right P [] ys all = all
 All-right P (x ∷ xs) ys all = All-right P xs ys (All-tail P x (xs ++ ys) all)
 
@@ -50,7 +50,7 @@ module _ (vars : Scope) (P : ℕ → Type 0) where
   abbrev Named : Name → Type 0
   Named name = P (place_in vars name)
 
-  All-named : (names : List Name) → All P (places_in vars names) → All Named names
+  pub All-named : (names : List Name) → All P (places_in vars names) → All Named names
   All-named [] all = All-nil Named
   All-named (name ∷ names) all = All-cons Named name names (All-head P (place_in vars name) (places_in vars names) all) (All-named names (All-tail P (place_in vars name) (places_in vars names) all))
 
@@ -140,7 +140,7 @@ module _ (vars : Scope) (P : ℕ → Type 0) where
 
 -- resets
 
-sets_of : (vars : Scope) (text : List Form) → flat_map (λ table. table.outs) (resets_in vars text) ≡ flat_map (sets_on vars) text
+pub sets_of : (vars : Scope) (text : List Form) → flat_map (λ table. table.outs) (resets_in vars text) ≡ flat_map (sets_on vars) text
 sets_of vars [] = refl
 sets_of vars (ModelLine names ∷ text) = sets_of vars text
 sets_of vars (InputsLine names ∷ text) = sets_of vars text

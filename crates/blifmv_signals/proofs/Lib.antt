@@ -1,4 +1,5 @@
 pub mod Agreeing
+pub mod Backward
 pub mod Counted
 pub mod Faultless
 pub mod Marking

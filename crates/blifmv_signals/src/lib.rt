@@ -3,6 +3,7 @@
 #![tactic(auto)]
 
 mod above;
+mod laws;
 mod line;
 mod lookup;
 mod sets;
@@ -11,4 +12,5 @@ mod tests;
 mod third_pass;
 mod whole;
 
+pub use laws::signals_without_fault;
 pub use third_pass::check_signals;
