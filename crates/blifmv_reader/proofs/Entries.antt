@@ -1,5 +1,5 @@
 -- What words spell are entries of their columns.
-use Rattle.std.proofs.Common.{◌≡◌, ◌<◌, ◌≤◌, ◌==◌, ◌||◌, ℕ, zero, suc, Bool, true, false, List, [], ◌∷◌, length, map, get_or, position, Option, Some, None, if◌then◌else◌, MatchOption, eqb-true, refl, sym, ◌∙◌, ap, subst, arith}
+use Rattle.std.proofs.Common.{◌≡◌, ◌<◌, ◌==◌, ℕ, true, false, List, [], ◌∷◌, length, map, Option, Some, None, if◌then◌else◌, eqb-true, refl, sym, ◌∙◌, ap, subst}
 use Rattle.std.specs.Prelude.{nat_eq, slice_index}
 use Rattle.std.specs.Option.{option_map}
 use Rattle.std.specs.List.{All, AllZip}

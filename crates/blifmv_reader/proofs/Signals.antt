@@ -1,17 +1,16 @@
 -- Each signal of a text's network has a name.
-use Rattle.std.proofs.Common.{◌≡◌, ◌<◌, ◌≤◌, ◌||◌, ◌++◌, ℕ, zero, suc, Bool, true, false, List, [], ◌∷◌, length, map, Option, Some, None, unwrap_or, slice_get, if◌then◌else◌, refl, sym, ◌∙◌, ap, subst, append_assoc, arith}
-use Rattle.std.specs.List.{All, flat_map, list_any}
-use Rattle.std.specs.Str.{bytes_eq}
+use Rattle.std.proofs.Common.{◌≡◌, ◌<◌, ◌≤◌, ◌++◌, ℕ, true, false, List, [], ◌∷◌, length, map, Some, None, unwrap_or, if◌then◌else◌, refl, sym, ◌∙◌, ap, subst}
+use Rattle.std.specs.List.{All, flat_map}
 use Rattle.std.proofs.lemmas.Bool.{false≢true}
 use Rattle.std.proofs.lemmas.List.{length-map}
 use Rattle.std.proofs.lemmas.List.Elements.{All-nil, All-cons, All-append}
 use Rattle.std.proofs.lemmas.Option.{slice_get_within}
-use Rattle.name_table.specs.Variables.{Variable, IsTable, names_of, is_in, place_of, with_name, are_different}
+use Rattle.name_table.specs.Variables.{IsTable, names_of, is_in, place_of, with_name, are_different}
 use Rattle.name_table.proofs.Apart.{different_with}
 use Rattle.name_table.proofs.Found.{absent, present}
 use Rattle.net_model.specs.Words.{Scope}
 use Rattle.net_model.specs.Forms.{Name, Form, ModelLine, InputsLine, OutputsLine, DomainsLine, TableLine, ResetLine, LatchLine, DefaultLine, EndLine, RowLine}
-use Rattle.net_model.specs.Nets.{Table, Latch, Net}
+use Rattle.net_model.specs.Nets.{Table, Latch}
 use Rattle.net_model.specs.Conditions.{columns_of}
 use Rattle.net_model.specs.NetTexts.{mentions, distinct, names_in, domain_in, variables_in, place_in, places_in, inputs_on, outputs_on, latches_on, tables_on, resets_on, tables_in, resets_in, net_with}
 use Rattle.net_model.specs.SoundNets.{HasKnownSignals}

@@ -1,13 +1,13 @@
 -- The network that a text says is sound.
-use Rattle.std.proofs.Common.{◌≡◌, ◌<◌, ◌&&◌, ◌++◌, ℕ, Bool, true, false, List, [], ◌∷◌, length, map, Option, Some, None, is_some, unwrap_or, MatchOption, refl, sym, ◌∙◌, ap, subst}
+use Rattle.std.proofs.Common.{◌≡◌, ℕ, Bool, true, false, List, [], ◌∷◌, map, Option, Some, None, is_some, unwrap_or, MatchOption, refl, sym, ◌∙◌, ap, subst}
 use Rattle.std.specs.Option.{option_map}
-use Rattle.std.specs.List.{All, AllZip, flat_map}
+use Rattle.std.specs.List.{All, AllZip}
 use Rattle.std.proofs.lemmas.Bool.{false≢true, and_parts}
 use Rattle.std.proofs.lemmas.List.Elements.{All-nil, All-cons, All-append}
 use Rattle.name_table.specs.Variables.{IsTable}
 use Rattle.net_model.specs.Words.{Scope}
 use Rattle.net_model.specs.Forms.{Name, Form, ModelLine, InputsLine, OutputsLine, DomainsLine, TableLine, ResetLine, LatchLine, DefaultLine, EndLine, RowLine}
-use Rattle.net_model.specs.Nets.{Entry, Row, Table, Net}
+use Rattle.net_model.specs.Nets.{Entry, Table, Net}
 use Rattle.net_model.specs.Spellings.{row_spelled, default_spelled}
 use Rattle.net_model.specs.Conditions.{MeetsConditions}
 use Rattle.net_model.specs.NetTexts.{variables_in, places_in, row_said, default_said, rows_under, default_under, table_said, tables_on, resets_on, tables_in, resets_in, net_with, open_behind, rows_stand, OpenTable}

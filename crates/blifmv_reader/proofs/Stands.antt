@@ -1,12 +1,11 @@
 -- The network that was read is the one that the bytes stand for.
-use Rattle.std.proofs.Common.{◌≡◌, ◌==◌, ◌&&◌, ℕ, Bool, true, false, List, [], ◌∷◌, ◌++◌, length, map, Option, Some, None, eqb-true, refl, sym, ◌∙◌, ap, subst}
-use Rattle.std.specs.List.{All, flat_map, list_all}
+use Rattle.std.proofs.Common.{◌≡◌, ℕ, true, List, [], ◌∷◌, length, map, Some, None, eqb-true, refl, sym, ◌∙◌, ap, subst}
+use Rattle.std.specs.List.{All, flat_map}
 use Rattle.std.proofs.lemmas.Bool.{and_parts}
 use Rattle.std.proofs.lemmas.List.Elements.{All-nil, All-cons, All-append}
-use Rattle.lex_core.specs.LogicalLines.{logical_lines}
 use Rattle.name_table.specs.Variables.{IsTable}
 use Rattle.net_model.specs.Words.{Scope}
-use Rattle.net_model.specs.Forms.{Name, Form, ModelLine, InputsLine, OutputsLine, DomainsLine, TableLine, ResetLine, LatchLine, DefaultLine, EndLine, RowLine, said_by}
+use Rattle.net_model.specs.Forms.{Form, ModelLine, InputsLine, OutputsLine, DomainsLine, TableLine, ResetLine, LatchLine, DefaultLine, EndLine, RowLine}
 use Rattle.net_model.specs.Nets.{Latch, Net}
 use Rattle.net_model.specs.Spellings.{domain_at}
 use Rattle.net_model.specs.Conditions.{MeetsConditions}
@@ -39,7 +38,7 @@ fits_on vars (DefaultLine words) h = All-nil (HasEqualSizes vars)
 fits_on vars EndLine h = All-nil (HasEqualSizes vars)
 fits_on vars (RowLine words) h = All-nil (HasEqualSizes vars)
 
-fits_in : (vars : Scope) (text : List Form) → latches_fit vars text ≡ true → All (HasEqualSizes vars) (flat_map (latches_on vars) text)
+pub fits_in : (vars : Scope) (text : List Form) → latches_fit vars text ≡ true → All (HasEqualSizes vars) (flat_map (latches_on vars) text)
 fits_in vars [] h = All-nil (HasEqualSizes vars)
 fits_in vars (form ∷ text) h =
     let parts = and_parts _ _ h in

@@ -1,10 +1,41 @@
-use Rattle.std.specs.Prelude.{◌≡◌, Option, Some, None, Result, Ok, Err}
+use Rattle.std.specs.Prelude.{◌≡◌, ℕ, List, Option, Some, None, Result}
 use Rattle.net_model.specs.declared.text_fault.TextFault.{TextFault}
-use Rattle.net_model.specs.declared.text_fault.TextFault.TheVariants.{At, Memory}
+use Rattle.net_model.specs.Faults.{Finds}
+use Rattle.net_model.specs.Nets.{Net}
+use Rattle.net_model.specs.NetTexts.{text_in, variables_in, net_said, StandsForNet}
+use Rattle.blifmv_names.specs.Limits.{IsWithinLimits}
+use Rattle.blifmv_names.specs.LineFaults.{line_fault}
+use Rattle.blifmv_signals.specs.SignalFaults.{Known, IsKnown, signal_fault}
+use Rattle.blifmv_tables.specs.RowFaults.{row_fault}
 
--- where the first pass finds a fault it is told, and nothing else is; want of memory is free
-abbrev pub TellsFirst : {T : Type 0} → Result T TextFault → Option TextFault → Type 0
-TellsFirst (Ok x) fault = fault ≡ None
-TellsFirst (Err Memory) fault = Unit {0}
-TellsFirst (Err (At line kind)) None = Unit {0}
-TellsFirst (Err (At line kind)) (Some fault) = fault ≡ At line kind
+-- What is told of a text: the fault of the first pass that finds one.
+
+-- the fault of this pass, where it has one, and else what is told of the later passes
+abbrev pub FindsFirst : {T : Type 0} → Result T TextFault → Option TextFault → Type 0 → Type 0
+FindsFirst result None later = later
+FindsFirst result (Some fault) later = Finds result (Some fault)
+
+abbrev pub FindsRowFault : {T : Type 0} → Result T TextFault → List ℕ → Type 0 → Type 0
+FindsRowFault result bytes later = FindsFirst result (row_fault (variables_in (text_in bytes)) bytes) later
+
+-- whatever is rightly known of the network that the lines say
+abbrev pub FindsSignalFault : {T : Type 0} → Result T TextFault → List ℕ → Type 0
+FindsSignalFault result bytes =
+    (known : Known) → IsKnown (net_said (text_in bytes)) (text_in bytes) known
+    → Finds result (signal_fault (net_said (text_in bytes)) known bytes)
+
+abbrev pub FindsNetFault : {T : Type 0} → Result T TextFault → List ℕ → Type 0
+FindsNetFault result bytes =
+    FindsFirst result (line_fault bytes) (FindsRowFault result bytes (FindsSignalFault result bytes))
+
+-- no pass finds a fault
+pub record HasNoFault (known : Known) (bytes : List ℕ) : Type 0 where
+  pub lines : line_fault bytes ≡ None
+  pub rows : row_fault (variables_in (text_in bytes)) bytes ≡ None
+  pub signals : signal_fault (net_said (text_in bytes)) known bytes ≡ None
+
+-- the bytes stand for a network, and pass no limit
+pub record StandsWithinLimits (bytes : List ℕ) : Type 0 where
+  pub net : Net
+  pub stands : StandsForNet bytes net
+  pub within : IsWithinLimits (text_in bytes)

@@ -5,8 +5,10 @@
 //! one, and within a pass that of the first line.
 #![tactic(auto)]
 
+mod laws;
 mod network;
 #[cfg(test)]
 mod tests;
 
+pub use laws::texts_without_fault;
 pub use network::{bytes_stand_for_one_net, read_net};

@@ -5,8 +5,7 @@ ghost use Rattle.net_model.specs.Nets as nets;
 ghost use Rattle.net_model.specs.Nets.{net_of};
 ghost use Rattle.net_model.specs.NetTexts.{StandsForNet};
 ghost use Rattle.net_model.specs.SoundNets.{IsSound};
-ghost use Rattle.blifmv_names.specs.LineFaults.{line_fault};
-ghost use Rattle.blifmv_reader.specs.Told.{TellsFirst};
+ghost use Rattle.blifmv_reader.specs.Told.{FindsNetFault};
 
 use blifmv_names::read_names;
 use blifmv_signals::check_signals;
@@ -21,12 +20,14 @@ pub fn read_net(alloc: Global, bytes: &[u8]) -> Result<Net, TextFault>
     ensures stands { IfOk result (λ net. StandsForNet bytes.now (net_of net)) }
     ensures only { IfOk result (λ net. (other : nets.Net) → StandsForNet bytes.now other → net_of net ≡ other) }
     ensures sound { IfOk result (λ net. IsSound (net_of net)) }
-    ensures lines { TellsFirst result (line_fault bytes.now) }
+    ensures fault { FindsNetFault result bytes.now }
 {
     let names = read_names(alloc, bytes)?;
     let net = read_tables(alloc, bytes, names)?;
-    check_signals(alloc, bytes, &net)?;
-    Ok(net)
+    match check_signals(alloc, bytes, &net) {
+        Ok(()) => Ok(net),
+        Err(fault) => Err(fault),
+    }
 }
 
 /// Bytes stand for one network at most.

@@ -1,8 +1,11 @@
+use Rattle.std.proofs.Common.{Ok, Err}
 use Rattle.net_model.specs.NetTexts.{text_in}
+use Rattle.net_model.specs.declared.net.Net as declared_net
 use Rattle.net_model.specs.Nets.{net_of}
 use Rattle.blifmv_reader.proofs.Signals.{table_said}
 use Rattle.blifmv_reader.proofs.Sound.{sound_net}
 use Rattle.blifmv_reader.proofs.Stands.{known_net, said_net, fit_net, stands_net, one_net}
+use Rattle.blifmv_reader.proofs.Told.{signal_found, refused_in, taken_in}
 use Rattle.blifmv_reader.proofs.network.read_net.Goals as goal
 
 -- src/network.rt:28:5
@@ -20,11 +23,23 @@ check_signals-requires-clause-latches c =
     fit_net (text_in c.args.bytes.now) c.in_ok-names.names (net_of c.in_ok-net.net) c.in_ok-net.ensures.latches c.in_ok-net.ensures.net
 
 -- src/network.rt:20:1
-pub returns-clause-only : goal.returns-clause-only
-returns-clause-only c = λ other. one_net c.args.bytes.now (net_of c.in_ok-net.net) other
-    (stands_net c.args.bytes.now c.in_ok-names.names (net_of c.in_ok-net.net) c.in_ok-names.ensures.lines c.in_ok-names.ensures.names c.in_ok-net.ensures.rows c.in_ok-net.ensures.net c.in_ok-check_signals.ensures.conditions)
+pub returns-in-Ok-clause-only : goal.returns-in-Ok-clause-only
+returns-in-Ok-clause-only c = λ other. one_net c.args.bytes.now (net_of c.in_ok-net.net) other
+    (stands_net c.args.bytes.now c.in_ok-names.names (net_of c.in_ok-net.net) c.in_ok-names.ensures.lines c.in_ok-names.ensures.names c.in_ok-net.ensures.rows c.in_ok-net.ensures.net c.in-Ok.ensures.conditions)
 
 -- src/network.rt:20:1
-pub returns-clause-sound : goal.returns-clause-sound
-returns-clause-sound c =
-    sound_net (text_in c.args.bytes.now) c.in_ok-names.names (net_of c.in_ok-net.net) (table_said (text_in c.args.bytes.now) c.in_ok-names.names c.in_ok-names.ensures.names c.in_ok-names.ensures.few) c.in_ok-names.ensures.names c.in_ok-net.ensures.rows c.in_ok-net.ensures.net c.in_ok-check_signals.ensures.conditions
+pub returns-in-Ok-clause-sound : goal.returns-in-Ok-clause-sound
+returns-in-Ok-clause-sound c =
+    sound_net (text_in c.args.bytes.now) c.in_ok-names.names (net_of c.in_ok-net.net) (table_said (text_in c.args.bytes.now) c.in_ok-names.names c.in_ok-names.ensures.names c.in_ok-names.ensures.few) c.in_ok-names.ensures.names c.in_ok-net.ensures.rows c.in_ok-net.ensures.net c.in-Ok.ensures.conditions
+
+-- src/network.rt:27:5
+pub returns-in-Err-clause-fault : goal.returns-in-Err-clause-fault
+returns-in-Err-clause-fault c =
+    signal_found {T = declared_net.Net} (Err c.in-Err.fault) c.args.bytes.now c.in_ok-names.names (net_of c.in_ok-net.net) c.in_ok-names.ensures.fault c.in_ok-names.ensures.names c.in_ok-net.ensures.fault c.in_ok-net.ensures.net
+    (refused_in (Unit {0}) declared_net.Net c.in-Err.fault c.args.bytes.now (net_of c.in_ok-net.net) c.in-Err.ensures.fault)
+
+-- src/network.rt:19:1
+pub returns-in-Ok-clause-fault : goal.returns-in-Ok-clause-fault
+returns-in-Ok-clause-fault c =
+    signal_found (Ok c.in_ok-net.net) c.args.bytes.now c.in_ok-names.names (net_of c.in_ok-net.net) c.in_ok-names.ensures.fault c.in_ok-names.ensures.names c.in_ok-net.ensures.fault c.in_ok-net.ensures.net
+    (taken_in (Unit {0}) declared_net.Net tt c.in_ok-net.net c.args.bytes.now (net_of c.in_ok-net.net) c.in-Ok.ensures.fault)
