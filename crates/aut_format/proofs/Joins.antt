@@ -1,7 +1,7 @@
 use Rattle.std.proofs.Common.{◌≡◌, List, ℕ, [], ◌∷◌, ◌++◌, refl, sym, ap, ◌∙◌, append_assoc}
 use Rattle.std.proofs.lemmas.List.{append-nil}
 use Rattle.std.specs.List.{join_with_byte}
-use Rattle.aut_format.specs.Fields.{blank_before, blank_after}
+use Rattle.aut_format.specs.Fields.{blank_before, blank_after, comma_before}
 
 -- a field, and then fields after a blank each
 pub join-cons : (first : List ℕ) (fields : List (List ℕ)) → join_with_byte 32 (first ∷ fields) ≡ first ++ blank_before fields
@@ -20,3 +20,8 @@ join-append (field ∷ fields) first rest =
     ∙ ap (λ t. field ++ (32 ∷ t)) (join-append fields first rest)
     ∙ sym (append_assoc field (32 ∷ []) (blank_after fields ++ (first ++ blank_before rest)))
     ∙ sym (append_assoc (field ++ 32 ∷ []) (blank_after fields) (first ++ blank_before rest))
+
+-- a name, and then names after a comma each
+pub join-commas : (first : List ℕ) (names : List (List ℕ)) → join_with_byte 44 (first ∷ names) ≡ first ++ comma_before names
+join-commas first [] = sym (append-nil first)
+join-commas first (name ∷ names) = ap (λ t. first ++ (44 ∷ t)) (join-commas name names)

@@ -1,17 +1,15 @@
-use Rattle.std.proofs.Common.{◌≡◌, ◌↔◌, refl, subst, codes, lit<}
+use Rattle.std.proofs.Common.{◌↔◌, codes, refl}
 use Rattle.net_model.specs.Words.{Word}
 use Rattle.net_model.specs.Listings.{Listing, ListingWords}
-use Rattle.net_model.specs.Printed.{IsPrintable, IsPrintedName, IsTextOf, Means, printed_text}
-use Rattle.printed_reader.proofs.Whole.{one_text}
+use Rattle.net_model.specs.NetLanguages.{Means}
+use Rattle.net_model.specs.Written.{IsTextName}
+use Rattle.net_model.specs.Printed.{IsPrintable, printed_text}
+use Rattle.printed_nets.proofs.Meant.{printed_means}
 
--- `solution` is a name of a printed text
-solution_is_name : IsPrintedName (codes "solution")
-solution_is_name = (lit< tt, refl)
+-- `solution` can be the name of a model
+solution_is_name : IsTextName (codes "solution")
+solution_is_name = record { word = refl; name_is = refl }
 
--- the printed text of an automaton means its language, since it is the text of no other one
+-- the printed text of an automaton means its language
 pub text_means : (auto : Listing) → IsPrintable auto → (word : Word) → Means (printed_text (codes "solution") auto) auto.vars word ↔ ListingWords auto word
-text_means auto printable word =
-    let text : IsTextOf auto (printed_text (codes "solution") auto) = (codes "solution", solution_is_name, printable, refl) in (
-      λ means. subst (λ other. ListingWords other word) (one_text means.0 auto _ means.1 text) means.3,
-      λ words. (auto, text, refl, words),
-    )
+text_means auto printable word = printed_means (codes "solution") auto solution_is_name printable word

@@ -2,11 +2,12 @@ use Rattle.std.proofs.Common.{◌≡◌, ◌+◌, ℕ, List, [], ◌∷◌, ◌+
 use Rattle.std.proofs.lemmas.List.{flat_map_more}
 use Rattle.std.proofs.lemmas.List.FromFn.{map-range_with_len_more}
 use Rattle.std.proofs.lemmas.List.Concat.{flat_map-append}
-use Rattle.std.specs.List.{flat_map, range_with_len}
+use Rattle.std.specs.List.{flat_map, join_with_byte, range_with_len}
 use Rattle.net_model.specs.Listings.{Listing}
-use Rattle.net_model.specs.Printed.{state_name, names_of, domain_line, states_line, mark_lines, row_line, line_bytes, printed_text}
-use Rattle.aut_format.specs.Fields.{blank_before}
-use Rattle.aut_format.proofs.Joins.{join-cons}
+use Rattle.name_table.specs.Variables.{names_of}
+use Rattle.net_model.specs.Printed.{state_name, domain_line, states_line, mark_lines, row_line, line_bytes, printed_text}
+use Rattle.aut_format.specs.Fields.{blank_before, comma_before}
+use Rattle.aut_format.proofs.Joins.{join-cons, join-commas}
 
 -- the names of the states below k, and a blank and the name of k
 pub states_more : (start t t' : List ℕ) (k : ℕ) → t ≡ start ++ blank_before (map state_name (range_with_len 0 k)) → t' ≡ (t ++ 32 ∷ []) ++ state_name k → t' ≡ start ++ blank_before (map state_name (range_with_len 0 (k + 1)))
@@ -85,3 +86,7 @@ pub solution_written : (auto : Listing) (t₁ t₂ t₃ t₄ t₅ t₆ t₇ t₈
     → t₀ ≡ printed_text (codes "solution") auto
 solution_written auto t₁ t₂ t₃ t₄ t₅ t₆ t₇ t₈ t₉ t₀ e₁ e₂ e₃ e₄ e₅ e₆ e₇ e₈ e₉ e₀ =
     parts_written t₁ t₂ t₃ t₄ t₅ t₆ t₇ t₈ t₉ t₀ _ _ _ _ _ _ _ _ _ _ e₁ e₂ e₃ e₄ e₅ e₆ e₇ e₈ e₉ e₀ ∙ sym (printed_text-parts auto)
+
+-- a list of names, written piece by piece
+pub list_written : (t t₁ t₂ t₃ t₄ first : List ℕ) (names : List (List ℕ)) → t₁ ≡ t ++ codes "(" → t₂ ≡ t₁ ++ first → t₃ ≡ t₂ ++ comma_before names → t₄ ≡ t₃ ++ codes ")" → t₄ ≡ t ++ (codes "(" ++ (join_with_byte 44 (first ∷ names) ++ codes ")"))
+list_written t t₁ t₂ t₃ t₄ first names e₁ e₂ e₃ e₄ = rw (join-commas first names) (search (rules, append_assoc))

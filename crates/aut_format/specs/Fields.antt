@@ -13,6 +13,10 @@ blank_before fields = flat_map (λ field. 32 ∷ field) fields
 abbrev pub blank_after : List (List ℕ) → List ℕ
 blank_after fields = flat_map (λ field. field ++ 32 ∷ []) fields
 
+-- the names, each after a comma
+abbrev pub comma_before : List (List ℕ) → List ℕ
+comma_before names = flat_map (λ name. 44 ∷ name) names
+
 -- the values that the entries of a row allow
 abbrev pub entries_of : List ValueSet → List (List ℕ)
 entries_of entries = map (λ entry. entry.values.items) entries

@@ -2,10 +2,10 @@
 
 ghost use Rattle.std.specs.Prelude.{◌≡◌, [], ◌∷◌, ◌++◌, map, codes, OnOk};
 ghost use Rattle.std.specs.List.{flat_map};
+ghost use Rattle.name_table.specs.Variables.{names_of};
 ghost use Rattle.net_model.specs.Listings.{row_of, scope_of, variable_of};
 ghost use Rattle.net_model.specs.Printed.{
   state_name,
-  names_of,
   domain_line,
   states_line,
   mark_field,

@@ -1,12 +1,13 @@
-//! The exact text of one automaton, and a sink that has no room for it.
+//! The exact text of one automaton, a sink that has no room for it, and which networks are taken as automata.
 
 ghost use Rattle.std.specs.Prelude.{◌≡◌, [], ◌∷◌, codes, IfOk};
 ghost use Rattle.net_model.specs.Listings.{listing_of, row_of, variable_of};
 ghost use Rattle.net_model.specs.Printed.{IsPrintable};
 
-use crate::write_listed;
+use crate::{as_auto, write_listed};
 use io_core::{HonestSink, MemSink, WriteFault};
-use net_model::{Listed, ListedRow, ListedVar, ValueSet};
+use name_table::{Domain, Names};
+use net_model::{Latch, Listed, ListedRow, ListedVar, Net, Table, TextFault, TextKind, ValueSet};
 use std::alloc::{AllocError, Global};
 use std::test::Fail;
 
@@ -109,5 +110,44 @@ fn leaves_a_front_where_the_room_ends(rt: HostRuntime) -> Result<(), Fail> {
         Err(WriteFault::Failed)
     );
     assert_eq!(rt; sink.taken(), b".model sol".as_slice());
+    Ok(())
+}
+
+// A latch, and a table of this one output from the latch's output.
+fn net_with(alloc: Global, output: &[u8]) -> Result<Net, Fail> {
+    let mut names = Names::new(alloc);
+    let input = names.add(b"a", Domain::numbered(alloc, 2)?)?;
+    let state = names.add(b"q", Domain::numbered(alloc, 2)?)?;
+    let output = names.add(output, Domain::numbered(alloc, 2)?)?;
+    let table = Table {
+        ins: vec![in alloc; state]?,
+        outs: vec![in alloc; output]?,
+        rows: Vec::new(alloc),
+        otherwise: None,
+    };
+    let latch = Latch {
+        input,
+        output: state,
+    };
+    Ok(Net {
+        names,
+        inputs: vec![in alloc; input]?,
+        outputs: vec![in alloc; output]?,
+        tables: vec![in alloc; table]?,
+        latches: vec![in alloc; latch]?,
+        resets: Vec::new(alloc),
+    })
+}
+
+#[test]
+fn takes_automata_alone(rt: HostRuntime) -> Result<(), Fail> {
+    assert_eq!(rt; as_auto(&net_with(rt.alloc(), b"Acc")?), Ok(()));
+    assert_eq!(rt;
+        as_auto(&net_with(rt.alloc(), b"acc")?),
+        Err(TextFault::At {
+            line: 0,
+            kind: TextKind::AccShape,
+        })
+    );
     Ok(())
 }

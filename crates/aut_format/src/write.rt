@@ -5,7 +5,8 @@ ghost use Rattle.io_core.specs.Causes.{Rose};
 ghost use Rattle.io_core.specs.Gained.{gained, GainsFrontOf};
 ghost use Rattle.net_model.specs.Words.{Word};
 ghost use Rattle.net_model.specs.Listings.{ListingWords, listing_of};
-ghost use Rattle.net_model.specs.Printed.{IsPrintable, Means, printed_text};
+ghost use Rattle.net_model.specs.NetLanguages.{Means};
+ghost use Rattle.net_model.specs.Printed.{IsPrintable, printed_text};
 
 use crate::lines::{
     push_domain_lines, push_inputs_line, push_mark_lines, push_row_lines, push_states_line,
@@ -24,7 +25,7 @@ pub fn write_listed<O: Sink>(alloc: Global, auto: &Listed, out: &mut O) -> Resul
     ensures refused { OnErr result (GainsFrontOf (O.contents out.old) (O.contents out.new)
         (printed_text (codes "solution") (listing_of auto.now))) }
 
-    // The text means the automaton's language.
+    // The text, read as every file is, means the automaton's language.
     ensures meaning { (word : Word)
         → Means (printed_text (codes "solution") (listing_of auto.now)) (listing_of auto.now).vars word
         ↔ ListingWords (listing_of auto.now) word }

@@ -2,8 +2,7 @@ use Rattle.std.proofs.Common.{◌≡◌, ◌↔◌, ◌<◌, ℕ, zero, suc, tru
 use Rattle.std.proofs.lemmas.Bool.{false≢true}
 use Rattle.net_model.specs.Words.{Letter, Word, IsLetter, IsWord}
 use Rattle.net_model.specs.Equation.{IsSafe, part}
-use Rattle.net_model.specs.Listings.{ListingWords}
-use Rattle.net_model.specs.Printed.{IsPrintable}
+use Rattle.net_model.specs.Listings.{IsListing, ListingWords}
 use Rattle.automata_laws.specs.Letters.{letter_place}
 use Rattle.automata_laws.specs.Pairs.{IsReachedTable, SameMembers, Pair, first_pairs, pairs_after, set_at, target_at, state_after, are_safe}
 use Rattle.automata_laws.specs.Examples.{wire, copy, never, wire_topology, word_00, word_01, wire_table}
@@ -41,19 +40,19 @@ wire_table_is_reached = record {
       (pairs_after wire_topology wire copy (set_at wire_table k) a) (wire_leads k below a over).1;
 }
 
--- the wire is an automaton that can be printed
-pub wire_printable : IsPrintable wire
-wire_printable = search rules
+-- the wire is a listing
+pub wire_is_listing : IsListing wire
+wire_is_listing = search rules
 
 -- so is the copy
-pub copy_printable : IsPrintable copy
-copy_printable = search rules
+pub copy_is_listing : IsListing copy
+copy_is_listing = search rules
 
 -- a word over X is safe where the table says so
 pub wire_tells : (x : Word) → IsWord wire_topology.x x
     → IsTrue (are_safe wire copy (set_at wire_table (state_after wire_topology.x wire_table 0 x)))
     ↔ IsSafe wire_topology (ListingWords wire) (ListingWords copy) x
-wire_tells = table_tells wire_topology wire copy wire_table refl wire_printable copy_printable wire_table_is_reached
+wire_tells = table_tells wire_topology wire copy wire_table refl wire_is_listing copy_is_listing wire_table_is_reached
 
 -- the empty word is safe
 pub empty_is_safe : IsSafe wire_topology (ListingWords wire) (ListingWords copy) []

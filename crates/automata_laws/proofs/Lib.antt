@@ -7,3 +7,4 @@ pub mod Pairs
 pub mod Places
 pub mod Product
 pub mod SafeWords
+pub mod Simulations

@@ -5,8 +5,7 @@ use Rattle.std.proofs.lemmas.Bool.{both_ways, cases_lt, eqb-true, and_parts, and
 use Rattle.std.proofs.lemmas.List.{get_or_past}
 use Rattle.std.proofs.lemmas.List.FromFn.{length-map-range_with_len, get_or-map-range_with_len}
 use Rattle.net_model.specs.Words.{Letter, Word}
-use Rattle.net_model.specs.Listings.{Listing, ListingWords, allows, steps, accepts}
-use Rattle.net_model.specs.Printed.{IsPrintable, IsPrintedRow}
+use Rattle.net_model.specs.Listings.{Row, Listing, IsListing, ListingWords, allows, steps, accepts}
 use Rattle.automata_laws.specs.Marks.{states_of, is_marked, first_marks, next_marks, marks_after, some_accepts}
 use Rattle.automata_laws.proofs.Determinise.{FollowsSets, determinise}
 use Rattle.automata_laws.proofs.Members.{IsOneOf, one_from_contains, contains_from_one, one_in_range, holds_of_one, any_from_one, one_from_any}
@@ -33,18 +32,17 @@ test_from_marked test n q marked =
     let below : q < n = omega arith in
     (below, sym (get_or-map-range_with_len test 0 n q q false below (omega arith)) ∙ marked)
 
-module _ (auto : Listing) (printable : IsPrintable auto) where
+module _ (auto : Listing) (listing : IsListing auto) where
   -- a step leads from a state to a state
   pub step_in_range : (p : ℕ) (a : Letter) (q : ℕ) → IsTrue (steps auto p a q) → (p < length auto.accepting) × (q < length auto.accepting)
   step_in_range p a q step =
       let (row, one, pass) = one_from_any (λ r. (r.present == p) && ((r.next == q) && allows r.entries a)) auto.rows step in
-      let printed = holds_of_one (IsPrintedRow auto.vars (length auto.accepting)) auto.rows row printable.rows one in
+      let present : row.present < length auto.accepting = holds_of_one (λ (r : Row). r.present < length auto.accepting) auto.rows row listing.present one in
+      let next : row.next < length auto.accepting = holds_of_one (λ (r : Row). r.next < length auto.accepting) auto.rows row listing.next one in
       let (from, rest) = and_parts (row.present == p) ((row.next == q) && allows row.entries a) pass in
       let (to, allowed) = and_parts (row.next == q) (allows row.entries a) rest in
       let is_p = eqb-true row.present p from in
       let is_q = eqb-true row.next q to in
-      let present = printed.present in
-      let next = printed.next in
       (omega arith, omega arith)
 
   -- each state is listed
@@ -61,11 +59,8 @@ module _ (auto : Listing) (printable : IsPrintable auto) where
             contains_from_one auto.initial q (subst P (eqb-true k q same) one),
         λ initial.
             let one = one_from_contains auto.initial q initial in
-            let P : List ℕ → Type 0 = λ states. IsOneOf states q in
-            let first = subst P printable.initial one in
-            let is : 0 ≡ q = elim first [ inl e ↦ e | inr none ↦ absurd none ] in
-            let some = printable.states in
-            marked_from_test test (length auto.accepting) q (omega arith)
+            let known : q < length auto.accepting = holds_of_one (λ k. k < length auto.accepting) auto.initial q listing.initial one in
+            marked_from_test test (length auto.accepting) q known
             (any_from_one (λ k. k == q) auto.initial q one (eq-eqb q q refl)),
       )
 
@@ -106,9 +101,9 @@ marks_after_are auto [] marks = refl
 marks_after_are auto (a ∷ word) marks = marks_after_are auto word (next_marks auto marks a)
 
 -- some state after a word accepts exactly where the word is in the language
-pub marks_tell : (auto : Listing) → IsPrintable auto → (word : Word)
+pub marks_tell : (auto : Listing) → IsListing auto → (word : Word)
     → IsTrue (some_accepts auto (marks_after auto (first_marks auto) word)) ↔ ListingWords auto word
-marks_tell auto printable word =
+marks_tell auto listing word =
     let P : List Bool → Type 0 = λ marks. IsTrue (some_accepts auto marks) ↔ ListingWords auto word in
     subst P (sym (marks_after_are auto word (first_marks auto)))
-    (determinise (marks_follow auto printable) (first_marks auto) tt (first_marks_are auto printable) word (any_letters word))
+    (determinise (marks_follow auto listing) (first_marks auto) tt (first_marks_are auto listing) word (any_letters word))

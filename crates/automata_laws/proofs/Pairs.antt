@@ -5,8 +5,7 @@ use Rattle.net_model.specs.Words.{Scope, Letter, Word, IsLetter, IsWord}
 use Rattle.net_model.specs.Parts.{letter_part}
 use Rattle.net_model.specs.Equation.{Topology, IsSafe}
 use Rattle.net_model.specs.declared.class.Mode.TheVariants.{Sync}
-use Rattle.net_model.specs.Listings.{Listing, ListingWords, steps, accepts}
-use Rattle.net_model.specs.Printed.{IsPrintable}
+use Rattle.net_model.specs.Listings.{Listing, IsListing, ListingWords, steps, accepts}
 use Rattle.automata_laws.specs.Letters.{letter_place, letters_with_part}
 use Rattle.automata_laws.specs.Marks.{states_of, first_marks, next_marks, some_accepts}
 use Rattle.automata_laws.specs.Pairs.{Pair, Table, IsReachedTable, first_pairs, pairs_by, pairs_after, is_safe_pair, are_safe, set_at, target_at, state_after}
@@ -36,7 +35,7 @@ pub pair_means : (accepting good : Bool) → (not accepting || good) ≡ true �
 pair_means true good passes accepts = passes
 pair_means false good passes accepts = cc
 
-module _ (topology : Topology) (f s : Listing) (printable : IsPrintable f) where
+module _ (topology : Topology) (f s : Listing) (listing : IsListing f) where
   -- what a letter of X leads to comes by a joint letter with that part
   pub pair_after_only : (pairs : List Pair) (a : Letter) (r : ℕ) (u : List Bool) → IsOneOf (pairs_after topology f s pairs a) (r, u)
       → (q : ℕ) × (t : List Bool) × (j : Letter) × IsOneOf pairs (q, t) × IsLetter topology.joint j
@@ -60,13 +59,13 @@ module _ (topology : Topology) (f s : Listing) (printable : IsPrintable f) where
       → IsOneOf (pairs_after topology f s pairs a) (r, next_marks s t (letter_part topology.joint topology.s j))
   pair_after_each pairs a q r t j held joint part step =
       let made : Pair = (r, next_marks s t (letter_part topology.joint topology.s j)) in
-      let range = step_in_range f printable q (letter_part topology.joint topology.f j) r step in
+      let range = step_in_range f listing q (letter_part topology.joint topology.f j) r step in
       one_of_joined (λ j. flat_map (pairs_by topology f s j) pairs) (letters_with_part topology.joint topology.x a) j made
       (joint_is_listed topology.joint topology.x a j joint part)
       (one_of_joined (pairs_by topology f s j) pairs (q, t) made held
       (one_mapped (λ p. (p, next_marks s t (letter_part topology.joint topology.s j)))
       (filter (steps f q (letter_part topology.joint topology.f j)) (states_of f)) r
-      (one_kept (steps f q (letter_part topology.joint topology.f j)) (states_of f) r (state_is_listed f printable r range.1) step)))
+      (one_kept (steps f q (letter_part topology.joint topology.f j)) (states_of f) r (state_is_listed f listing r range.1) step)))
 
   -- the states of the table follow the pairs
   pub table_follows : (table : Table) → IsReachedTable topology f s table
@@ -111,11 +110,11 @@ first_pairs_are f s q t = (
 
 -- a table of reached sets tells the safe words
 pub table_tells : (topology : Topology) (f s : Listing) (table : Table)
-    → topology.mode ≡ Sync → IsPrintable f → IsPrintable s → IsReachedTable topology f s table
+    → topology.mode ≡ Sync → IsListing f → IsListing s → IsReachedTable topology f s table
     → (x : Word) → IsWord topology.x x
     → IsTrue (are_safe f s (set_at table (state_after topology.x table 0 x)))
     ↔ IsSafe topology (ListingWords f) (ListingWords s) x
-table_tells topology f s table sync printable_f printable_s reached x over =
+table_tells topology f s table sync listing_f listing_s reached x over =
     let P : ℕ → Type 0 = λ k. IsTrue (are_safe f s (set_at table k)) ↔ IsSafe topology (ListingWords f) (ListingWords s) x in
     let firsts = λ (q : ℕ) (t : List Bool).
     let same = reached.first (q, t) in
@@ -123,7 +122,7 @@ table_tells topology f s table sync printable_f printable_s reached x over =
     let both : Contains (set_at table 0) (q, t) ↔ (Contains f.initial q × (first_marks s ≡ t)) =
     (λ holds. is.0 (same.0 holds), λ initial. same.1 (is.1 initial)) in
     both in
-    let sets = marks_follow s printable_s in
-    let pairs = table_follows topology f s printable_f table reached in
-    let told = product_tells_safe topology sets pairs (λ j joint. tt) (first_marks s) tt (first_marks_are s printable_s) 0 reached.some firsts in
+    let sets = marks_follow s listing_s in
+    let pairs = table_follows topology f s listing_f table reached in
+    let told = product_tells_safe topology sets pairs (λ j joint. tt) (first_marks s) tt (first_marks_are s listing_s) 0 reached.some firsts in
     subst P (sym (state_after_is topology.x table x 0)) (told sync x over)

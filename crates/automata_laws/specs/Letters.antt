@@ -1,7 +1,7 @@
-use Rattle.std.specs.Prelude.{◌+◌, ◌*◌, ℕ, List, [], ◌∷◌, length, map, filter}
+use Rattle.std.specs.Prelude.{◌+◌, ◌*◌, ◌<◌, ◌^◌, ℕ, List, [], ◌∷◌, length, map, filter}
 use Rattle.std.specs.List.{flat_map, range_with_len}
 use Rattle.std.specs.Str.{bytes_eq}
-use Rattle.net_model.specs.Words.{Scope, Letter}
+use Rattle.net_model.specs.Words.{Variable, Scope, Letter}
 use Rattle.net_model.specs.Parts.{letter_part}
 
 -- all letters over a scope, ordered by their values, the first variable deciding first
@@ -23,3 +23,7 @@ abbrev pub letter_place : Scope → Letter → ℕ
 letter_place [] letter = 0
 letter_place (v ∷ scope) [] = 0
 letter_place (v ∷ scope) (a ∷ letter) = a * letter_count scope + letter_place scope letter
+
+-- a value of the variable is a number of 32 bits
+abbrev pub HasFewValues : Variable → Type 0
+HasFewValues v = length v.values < 2 ^ 32

@@ -6,8 +6,7 @@ ghost use Rattle.std.specs.Prelude.{◌≡◌, ◌↔◌, IsTrue, []};
 ghost use Rattle.net_model.specs.Words.{Word, IsWord};
 ghost use Rattle.net_model.specs.Equation.{Topology, IsSafe};
 ghost use Rattle.net_model.specs.declared.class.Mode.TheVariants.{Sync};
-ghost use Rattle.net_model.specs.Listings.{Listing, ListingWords};
-ghost use Rattle.net_model.specs.Printed.{IsPrintable};
+ghost use Rattle.net_model.specs.Listings.{Listing, IsListing, ListingWords};
 ghost use Rattle.automata_laws.specs.Examples.{wire, copy, never, wire_topology, wire_table, word_00, word_01};
 ghost use Rattle.automata_laws.specs.Marks.{first_marks, marks_after, some_accepts};
 ghost use Rattle.automata_laws.specs.Pairs.{Table, IsReachedTable, set_at, state_after, are_safe};
@@ -15,7 +14,7 @@ ghost use Rattle.automata_laws.specs.Pairs.{Table, IsReachedTable, set_at, state
 /// The subset construction keeps the language: the set of states after a word has one that accepts exactly where the
 /// word is in the language.
 pub fn determinising_keeps_the_language()
-    ensures { (auto : Listing) → IsPrintable auto → (word : Word)
+    ensures { (auto : Listing) → IsListing auto → (word : Word)
         → IsTrue (some_accepts auto (marks_after auto (first_marks auto) word)) ↔ ListingWords auto word }
 {}
 
@@ -23,7 +22,7 @@ pub fn determinising_keeps_the_language()
 /// exactly where, in each pair that it reaches and in which F accepts, the set of S's states has one that accepts.
 pub fn the_product_tells_the_safe_words()
     ensures { (topology : Topology) (f s : Listing) (table : Table)
-        → topology.mode ≡ Sync → IsPrintable f → IsPrintable s → IsReachedTable topology f s table
+        → topology.mode ≡ Sync → IsListing f → IsListing s → IsReachedTable topology f s table
         → (x : Word) → IsWord topology.x x
         → IsTrue (are_safe f s (set_at table (state_after topology.x table 0 x)))
         ↔ IsSafe topology (ListingWords f) (ListingWords s) x }

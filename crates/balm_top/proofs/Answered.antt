@@ -2,8 +2,9 @@ use Rattle.std.proofs.Common.{◌≡◌, ◌↔◌, Bool, true, false, ℕ, List
 use Rattle.io_core.specs.Files.{Files}
 use Rattle.net_model.specs.Words.{Word, Scope}
 use Rattle.net_model.specs.Equation.{Topology, IsSafe}
-use Rattle.net_model.specs.Listings.{Listing, ListingWords, listing_of}
-use Rattle.net_model.specs.Printed.{Means}
+use Rattle.net_model.specs.Listings.{ListingWords, listing_of}
+use Rattle.net_model.specs.Nets.{Net}
+use Rattle.net_model.specs.NetLanguages.{letters_of, NetWords, Means}
 use Rattle.net_model.proofs.Largest.{safe_words_are_largest}
 use Rattle.listed_solve.specs.declared.solve.Solution.{Solution}
 use Rattle.balm_top.specs.Jobs.{topology_of}
@@ -24,11 +25,11 @@ finished true = tt
 finished false = tt
 
 -- the words of a text that means a solution
-module _ (topology : Topology) (f s : Listing) (solution : Solution) (solved : IsSolved topology f s solution) (means : MeansSolution solution) where
+module _ (topology : Topology) (f s : Net) (solution : Solution) (solved : IsSolved topology f s solution) (means : MeansSolution solution) where
   means_x : (x : Word) → Means (text_of solution) topology.x x ↔ ListingWords (listing_of solution.auto) x
   means_x = subst (λ (vars : Scope). (x : Word) → Means (text_of solution) vars x ↔ ListingWords (listing_of solution.auto) x) solved.letters means
 
-  means_safe : (x : Word) → Means (text_of solution) topology.x x ↔ IsSafe topology (ListingWords f) (ListingWords s) x
+  means_safe : (x : Word) → Means (text_of solution) topology.x x ↔ IsSafe topology (NetWords f) (NetWords s) x
   means_safe x = (λ m. (solved.exact x).0 ((means_x x).0 m), λ safe. (means_x x).1 ((solved.exact x).1 safe))
 
   verdict_is : (has : Bool) → MatchBool has ((x : Word) × ListingWords (listing_of solution.auto) x) ((x : Word) → ListingWords (listing_of solution.auto) x → ⊥) → IsVerdict (verdict_of has) (Means (text_of solution) topology.x)
@@ -39,7 +40,7 @@ module _ (topology : Topology) (f s : Listing) (solution : Solution) (solved : I
 -- the text of a solution is the answer
 is_answer : (words : List (List ℕ)) (files : Files) (solution : Solution) → Solves words files solution → MeansSolution solution → IsAnswer words files (verdict_of solution.has_word) (text_of solution)
 is_answer words files solution solves means =
-    let topology = topology_of solves.job solves.f.vars solves.s.vars in
+    let topology = topology_of solves.job (letters_of solves.f) (letters_of solves.s) in
     record {
       job = solves.job;
       f = solves.f;

@@ -1,5 +1,7 @@
 pub mod Answered
 pub mod Fronts
+pub mod GoodNames
+pub mod Limited
 pub mod NameLists
 pub mod Reading
 pub mod Seven

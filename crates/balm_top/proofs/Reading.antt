@@ -1,6 +1,8 @@
 use Rattle.std.proofs.Common.{◌≡◌, ℕ, List, Option, Some, Result, Ok, Err, IfOk, IfErr}
 use Rattle.io_core.specs.Files.{Files}
-use Rattle.net_model.specs.Listings.{Listing, listing_of}
+use Rattle.net_model.specs.Listings.{listing_of}
+use Rattle.net_model.specs.Nets.{Net}
+use Rattle.net_model.specs.NetLanguages.{letters_of}
 use Rattle.net_model.specs.Printed.{IsPrintable}
 use Rattle.listed_solve.specs.declared.solve.Solution.{Solution}
 use Rattle.balm_top.specs.Jobs.{Job, topology_of}
@@ -10,8 +12,8 @@ use Rattle.balm_top.specs.declared.stop.Stop.{Stop}
 use Rattle.balm_top.proofs.Stopped.{stops_work}
 
 -- What the work on two files that are read says of the words and the files.
-module _ (words : List (List ℕ)) (holds : Option Files) (job : Job) (f s : Listing) (read : (files : Files) → holds ≡ Some files → AreRead words files job f s) where
-  pub solves_rightly : (result : Result Solution Stop) → IfOk result (λ solution. IsPrintable (listing_of solution.auto)) → IfOk result (λ solution. IsWorkable job f s × IsSolved (topology_of job f.vars s.vars) f s solution) → IfOk result (SolvesRightly words holds)
+module _ (words : List (List ℕ)) (holds : Option Files) (job : Job) (f s : Net) (read : (files : Files) → holds ≡ Some files → AreRead words files job f s) where
+  pub solves_rightly : (result : Result Solution Stop) → IfOk result (λ solution. IsPrintable (listing_of solution.auto)) → IfOk result (λ solution. IsWorkable job f s × IsSolved (topology_of job (letters_of f) (letters_of s)) f s solution) → IfOk result (SolvesRightly words holds)
   solves_rightly (Ok solution) printable solved = (
     printable,
     λ files held. record {

@@ -1,16 +1,19 @@
-use Rattle.std.proofs.Common.{◌≡◌, ◌≤◌, ◌⊎◌, inl, inr, ℕ, List, Option, Some, min, refl, sym, ap, ◌∙◌, subst, arith}
+use Rattle.std.proofs.Common.{◌≡◌, ◌≤◌, ◌⊎◌, inl, inr, ℕ, List, Option, Some, None, min, refl, sym, ap, ◌∙◌, subst, arith}
 use Rattle.io_core.specs.Files.{Files, bytes_under}
 use Rattle.io_core.specs.Causes.{Rose}
-use Rattle.net_model.specs.Listings.{Listing}
-use Rattle.net_model.specs.Printed.{IsTextOf}
+use Rattle.net_model.specs.Nets.{Net}
+use Rattle.net_model.specs.Problems as problems
+use Rattle.net_model.specs.declared.text_fault.TextKind.{TextKind}
+use Rattle.net_model.specs.declared.text_fault.TextKind.TheVariants as kinds
 use Rattle.balm_top.specs.Jobs.{Job, IsJob, HasNoJob}
 use Rattle.balm_top.specs.Refusals as refusals
-use Rattle.balm_top.specs.Refusals.{IsWithin, IsReadAs, IsReached, AreRead}
+use Rattle.balm_top.specs.Refusals.{IsWithin, HasFault, IsReadAs, IsReached, AreRead, fault_status}
 use Rattle.balm_top.specs.Answers.{RefusedRightly, ReadFaultRightly}
-use Rattle.balm_top.specs.Stops.{StopsRightly, StopsAtFile, StopsWork, stop_status, stop_line}
+use Rattle.balm_top.specs.Stops.{StopsRightly, StopsAtFile, StopsWork, RefusesNamesOf, RefusesNamesHeld, told_refusal, names_status, told_line, stop_status, stop_line}
+use Rattle.balm_top.specs.declared.status.Status.{Status}
 use Rattle.balm_top.specs.declared.status.Status.TheVariants as status
 use Rattle.balm_top.specs.declared.stop.Stop.{Stop}
-use Rattle.balm_top.specs.declared.stop.Stop.TheVariants.{NoJob, Unreadable, TooLong, NotPrinted, BadNames, TooBig, Memory}
+use Rattle.balm_top.specs.declared.stop.Stop.TheVariants.{NoJob, Unreadable, TooLong, Faulty, BadNames, TooBig, Memory}
 
 -- a count that rose from a later moment on rose from the earlier one on
 rose_since : (before between now : ℕ) → before ≤ between → Rose between now → Rose before now
@@ -28,39 +31,86 @@ module _ (words : List (List ℕ)) (holds : Option Files) (faults between faults
       let P : List ℕ → Type 0 = λ n. IsReached files job n × (IsWithin (bytes_under files n) → ⊥) in
       let all = subst P (sym h.0) (reached files held, h.1 files held) in
       (job, job_is, all.0, all.1)
-  stops_at_file (NotPrinted asked) h = λ files held.
-      let P : List ℕ → Type 0 = λ n. IsReached files job n × IsWithin (bytes_under files n) × ((auto : Listing) → IsTextOf auto (bytes_under files n) → ⊥) in
+  stops_at_file (Faulty asked line kind) h = λ files held.
+      let P : List ℕ → Type 0 = λ n. IsReached files job n × IsWithin (bytes_under files n) × HasFault (bytes_under files n) line kind in
       let all = subst P (sym h.0) (reached files held, (h.1 files held).0, (h.1 files held).1) in
       (job, job_is, all.0, all.1, all.2)
-  stops_at_file BadNames h = absurd h
+  stops_at_file (BadNames refusal) h = absurd h
   stops_at_file (TooBig asked) h = absurd h
   stops_at_file Memory h = tt
 
 -- A stop once both files are read is a stop of the whole.
-module _ (words : List (List ℕ)) (holds : Option Files) (faults faults' : List ℕ → ℕ) (job : Job) (f s : Listing) (read : (files : Files) → holds ≡ Some files → AreRead words files job f s) where
+module _ (words : List (List ℕ)) (holds : Option Files) (faults faults' : List ℕ → ℕ) (job : Job) (f s : Net) (read : (files : Files) → holds ≡ Some files → AreRead words files job f s) where
+  -- a refusal of the names, where it isn't want of memory
+  names_stop : (refusal : Option problems.NameRefusal) → RefusesNamesOf job f s refusal → RefusesNamesHeld words holds refusal
+  names_stop None h = tt
+  names_stop (Some refusal) h = λ files held. (job, f, s, read files held, h)
+
   pub stops_work : (stop : Stop) → StopsWork job f s stop → StopsRightly words holds faults faults' stop
   stops_work NoJob h = absurd h
   stops_work (Unreadable name) h = absurd h
   stops_work (TooLong name) h = absurd h
-  stops_work (NotPrinted name) h = absurd h
-  stops_work BadNames h = λ files held. (job, f, s, read files held, h)
+  stops_work (Faulty name line kind) h = absurd h
+  stops_work (BadNames refusal) h = names_stop (told_refusal refusal) h
   stops_work (TooBig name) h = λ files held. (job, f, s, read files held, h.0, h.1, h.2)
   stops_work Memory h = tt
+
+-- a fault of a text has one of two statuses
+data IsFaultStatus : Status → Type 0 where
+  is_limit : IsFaultStatus status.Limit
+  is_refused : IsFaultStatus status.Refused
+
+fault_has_status : (kind : TextKind) → IsFaultStatus (fault_status kind)
+fault_has_status kinds.UnknownDirective = is_refused
+fault_has_status kinds.BadCount = is_refused
+fault_has_status kinds.UnknownValue = is_refused
+fault_has_status kinds.RowWidth = is_refused
+fault_has_status kinds.EqDomain = is_refused
+fault_has_status kinds.DrivenTwice = is_refused
+fault_has_status kinds.Undriven = is_refused
+fault_has_status kinds.ResetNotConstant = is_refused
+fault_has_status kinds.AccShape = is_refused
+fault_has_status kinds.NoModel = is_refused
+fault_has_status kinds.TwiceDefault = is_refused
+fault_has_status (kinds.Limit which) = is_limit
+fault_has_status kinds.Hierarchy = is_refused
+fault_has_status kinds.BadName = is_refused
+fault_has_status kinds.BadDomain = is_refused
+fault_has_status kinds.Small = is_refused
+fault_has_status kinds.BadWidth = is_refused
+fault_has_status kinds.BadBit = is_refused
+fault_has_status kinds.UnknownReset = is_refused
+fault_has_status kinds.MissingWidths = is_refused
+fault_has_status kinds.NoRows = is_refused
+fault_has_status kinds.BadHeader = is_refused
+fault_has_status kinds.BadLetter = is_refused
+
+no_fault_is : (s : Status) → IsFaultStatus s → (s ≡ status.Usage → ⊥) × (s ≡ status.ReadFault → ⊥) × (s ≡ status.WriteFault → ⊥) × (s ≡ status.Memory → ⊥) × (s ≡ status.NodeLimit → ⊥)
+no_fault_is s is_limit = (λ e. cc, λ e. cc, λ e. cc, λ e. cc, λ e. cc)
+no_fault_is s is_refused = (λ e. cc, λ e. cc, λ e. cc, λ e. cc, λ e. cc)
+
+pub fault_is_none : (kind : TextKind) → (fault_status kind ≡ status.Usage → ⊥) × (fault_status kind ≡ status.ReadFault → ⊥) × (fault_status kind ≡ status.WriteFault → ⊥) × (fault_status kind ≡ status.Memory → ⊥) × (fault_status kind ≡ status.NodeLimit → ⊥)
+fault_is_none kind = no_fault_is (fault_status kind) (fault_has_status kind)
 
 -- no refusal is a read fault, and none is want of memory
 no_read_fault : (refusal : refusals.Refusal) → refusals.status_of refusal ≡ status.ReadFault → ⊥
 no_read_fault refusals.NoJob is = cc
 no_read_fault (refusals.TooLong name) is = cc
-no_read_fault (refusals.NotPrinted name) is = cc
-no_read_fault refusals.BadNames is = cc
+no_read_fault (refusals.Faulty name line kind) is = (fault_is_none kind).1 is
+no_read_fault (refusals.BadNames refusal) is = cc
 no_read_fault (refusals.TooBig name) is = cc
 
 no_memory : (refusal : refusals.Refusal) → refusals.status_of refusal ≡ status.Memory → ⊥
 no_memory refusals.NoJob is = cc
 no_memory (refusals.TooLong name) is = cc
-no_memory (refusals.NotPrinted name) is = cc
-no_memory refusals.BadNames is = cc
+no_memory (refusals.Faulty name line kind) is = (fault_is_none kind).3 is
+no_memory (refusals.BadNames refusal) is = cc
 no_memory (refusals.TooBig name) is = cc
+
+-- nor is a refusal of names a fault of use
+names_no_usage : (refusal : Option problems.NameRefusal) → names_status refusal ≡ status.Usage → ⊥
+names_no_usage None is = cc
+names_no_usage (Some refusal) is = cc
 
 -- What a stop says of the words, the line and the counts.
 module _ (words : List (List ℕ)) (holds : Option Files) (faults faults' : List ℕ → ℕ) where
@@ -68,16 +118,20 @@ module _ (words : List (List ℕ)) (holds : Option Files) (faults faults' : List
   usage_is_no_job NoJob h is = h
   usage_is_no_job (Unreadable name) h is = cc
   usage_is_no_job (TooLong name) h is = cc
-  usage_is_no_job (NotPrinted name) h is = cc
-  usage_is_no_job BadNames h is = cc
+  usage_is_no_job (Faulty name line kind) h is = absurd ((fault_is_none kind).0 is)
+  usage_is_no_job (BadNames refusal) h is = absurd (names_no_usage (told_refusal refusal) is)
   usage_is_no_job (TooBig name) h is = cc
   usage_is_no_job Memory h is = cc
+
+  refused_names : (Told : List ℕ → Type 0) (refusal : Option problems.NameRefusal) → RefusesNamesHeld words holds refusal → Told (told_line refusal) → RefusedRightly words holds Told (names_status refusal)
+  refused_names Told None h told = λ refused. absurd (no_memory refused.0 refused.1)
+  refused_names Told (Some refusal) h told = λ _. (refusals.BadNames refusal, refl, told, h)
 
   pub refused_rightly : (Told : List ℕ → Type 0) (stop : Stop) → StopsRightly words holds faults faults' stop → Told (stop_line stop) → RefusedRightly words holds Told (stop_status stop)
   refused_rightly Told NoJob h told = λ _. (refusals.NoJob, refl, told, λ files held. h)
   refused_rightly Told (Unreadable name) h told = λ refused. absurd (no_read_fault refused.0 refused.1)
   refused_rightly Told (TooLong name) h told = λ _. (refusals.TooLong name.now, refl, told, h)
-  refused_rightly Told (NotPrinted name) h told = λ _. (refusals.NotPrinted name.now, refl, told, h)
-  refused_rightly Told BadNames h told = λ _. (refusals.BadNames, refl, told, h)
+  refused_rightly Told (Faulty name line kind) h told = λ _. (refusals.Faulty name.now line kind, refl, told, h)
+  refused_rightly Told (BadNames refusal) h told = refused_names Told (told_refusal refusal) h told
   refused_rightly Told (TooBig name) h told = λ _. (refusals.TooBig name.now, refl, told, h)
   refused_rightly Told Memory h told = λ refused. absurd (no_memory refused.0 refused.1)

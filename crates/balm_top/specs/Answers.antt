@@ -1,14 +1,15 @@
-use Rattle.std.specs.Prelude.{◌≡◌, ◌≢◌, ◌≤◌, ◌↔◌, ◌⊎◌, ℕ, List, [], ◌∷◌, ◌++◌, length, take, codes, Option, Some}
+use Rattle.std.specs.Prelude.{◌≡◌, ◌≢◌, ◌≤◌, ◌↔◌, ◌⊎◌, ℕ, List, [], ◌∷◌, ◌++◌, length, take, Option, Some}
 use Rattle.io_core.specs.Files.{Files}
 use Rattle.io_core.specs.Causes.{Rose}
 use Rattle.io_core.specs.Gained.{gained, GainsFrontOf}
 use Rattle.net_model.specs.Words.{Word, Language}
 use Rattle.net_model.specs.Equation.{Topology, IsSafe, InLargest, IsLargestSolution}
-use Rattle.net_model.specs.Listings.{Listing, ListingWords}
-use Rattle.net_model.specs.Printed.{Means}
+use Rattle.net_model.specs.Nets.{Net}
+use Rattle.net_model.specs.NetLanguages.{letters_of, NetWords, Means}
 use Rattle.net_model.specs.declared.class.Class.{Class}
 use Rattle.net_model.specs.declared.class.Class.TheVariants.{All}
 use Rattle.balm_top.specs.Jobs.{Job, IsJob, topology_of}
+use Rattle.balm_top.specs.Lines.{unreadable_line, write_line}
 use Rattle.balm_top.specs.Refusals.{Refusal, status_of, line_of, Refuses, IsReached, IsProblem}
 use Rattle.balm_top.specs.Statuses.{IsFinished}
 use Rattle.balm_top.specs.declared.status.Status.{Status}
@@ -35,12 +36,12 @@ IsVerdict Memory L = ⊥
 -- stays inside S, and each word of each automaton that is a solution is a word of it; and the status is the verdict.
 pub record IsAnswer (words : List (List ℕ)) (files : Files) (status : Status) (text : List ℕ) : Type 0 where
   pub job : Job
-  pub f : Listing
-  pub s : Listing
+  pub f : Net
+  pub s : Net
   pub problem : IsProblem words files job f s
-  pub exact : IsLargestText All (topology_of job f.vars s.vars) (ListingWords f) (ListingWords s) text
-  pub solution : IsLargestSolution All (topology_of job f.vars s.vars) (ListingWords f) (ListingWords s) (Means text (topology_of job f.vars s.vars).x)
-  pub verdict : IsVerdict status (Means text (topology_of job f.vars s.vars).x)
+  pub exact : IsLargestText All (topology_of job (letters_of f) (letters_of s)) (NetWords f) (NetWords s) text
+  pub solution : IsLargestSolution All (topology_of job (letters_of f) (letters_of s)) (NetWords f) (NetWords s) (Means text (topology_of job (letters_of f) (letters_of s)).x)
+  pub verdict : IsVerdict status (Means text (topology_of job (letters_of f) (letters_of s)).x)
 
 -- Where the job was done, the shelf tells what it holds and out what it took, out has gained one text, the answer.
 abbrev pub SolveIsExact : List (List ℕ) → Option Files → Option (List ℕ) → Option (List ℕ) → Status → Type 0
@@ -78,13 +79,13 @@ ReadFaultRightly words holds faults faults' Told status =
     × IsJob words job
     × ((name ≡ job.f) ⊎ (name ≡ job.s))
     × Rose (faults name) (faults' name)
-    × Told (codes "balm: cannot read " ++ name ++ codes "\n")
+    × Told (unreadable_line name)
     × ((files : Files) → holds ≡ Some files → IsReached files job name)
 
 -- Where the answer cannot be written, out's count of faults rose, and the line was told.
 abbrev pub WriteFaultRightly : ℕ → ℕ → (List ℕ → Type 0) → Status → Type 0
 WriteFaultRightly faults faults' Told status =
-    status ≡ WriteFault → Rose faults faults' × Told (codes "balm: cannot write\n")
+    status ≡ WriteFault → Rose faults faults' × Told write_line
 
 -- out is as before, but where an answer was begun
 abbrev pub KeepsOut : Option (List ℕ) → Option (List ℕ) → Status → Type 0

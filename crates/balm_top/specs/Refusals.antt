@@ -1,12 +1,19 @@
-use Rattle.std.specs.Prelude.{◌≡◌, ◌≤◌, ◌⊎◌, ℕ, true, false, List, ◌∷◌, [], ◌++◌, length, codes, Option, Some}
+use Rattle.std.specs.Prelude.{◌≡◌, ◌≤◌, ◌⊎◌, ℕ, List, length, Err, Some, None}
 use Rattle.io_core.specs.Files.{Files, bytes_under}
-use Rattle.io_core.specs.Causes.{Rose}
-use Rattle.io_core.specs.Gained.{gained, GainsFrontOf}
-use Rattle.net_model.specs.Listings.{Listing}
-use Rattle.net_model.specs.Topologies.{joint_scope, are_good_names}
-use Rattle.net_model.specs.Printed.{IsTextOf}
-use Rattle.listed_scopes.specs.Small.{IsSmall}
+use Rattle.net_model.specs.Nets.{Net}
+use Rattle.net_model.specs.NetTexts.{text_in, StandsForNet}
+use Rattle.net_model.specs.NetLanguages.{letters_of}
+use Rattle.net_model.specs.Topologies.{joint_scope}
+use Rattle.net_model.specs.Problems.{NetFile, NameRefusal, first_refusal}
+use Rattle.net_model.specs.declared.class.Mode.TheVariants.{Sync}
+use Rattle.net_model.specs.declared.text_fault.TextFault.TheVariants.{At}
+use Rattle.net_model.specs.declared.text_fault.TextKind.{TextKind}
+use Rattle.net_model.specs.declared.text_fault.TextKind.TheVariants as kinds
+use Rattle.blifmv_names.specs.Limits.{IsWithinLimits}
+use Rattle.blifmv_reader.specs.Told.{FindsNetFault}
+use Rattle.listed_nets.specs.Small.{IsSmall}
 use Rattle.balm_top.specs.Jobs.{Job, IsJob, HasNoJob}
+use Rattle.balm_top.specs.Lines.{usage_line, long_line, fault_line, names_line}
 use Rattle.balm_top.specs.declared.files.TheConstants.{MAX_BYTES}
 use Rattle.balm_top.specs.declared.status.Status.{Status}
 use Rattle.balm_top.specs.declared.status.Status.TheVariants as status
@@ -18,71 +25,89 @@ use Rattle.balm_top.specs.declared.status.Status.TheVariants as status
 abbrev pub IsWithin : List ℕ → Type 0
 IsWithin bytes = length bytes ≤ MAX_BYTES
 
--- the file of this name is read, as this automaton
-abbrev pub IsReadAs : Files → List ℕ → Listing → Type 0
-IsReadAs files name auto = IsWithin (bytes_under files name) × IsTextOf auto (bytes_under files name)
+-- the file of this name is read, as this network: it isn't too long, stands for the network, and passes no limit
+pub record IsReadAs (files : Files) (name : List ℕ) (net : Net) : Type 0 where
+  pub within : IsWithin (bytes_under files name)
+  pub stands : StandsForNet (bytes_under files name) net
+  pub limits : IsWithinLimits (text_in (bytes_under files name))
+
+-- the first fault of a text, by the order of the passes over it
+abbrev pub HasFault : List ℕ → ℕ → TextKind → Type 0
+HasFault bytes line kind = FindsNetFault {T = Net} (Err (At line kind)) bytes
 
 -- the step of this file is reached: it is F's, or it is S's and F's is read
 abbrev pub IsReached : Files → Job → List ℕ → Type 0
-IsReached files job name = (name ≡ job.f) ⊎ ((f : Listing) × IsReadAs files job.f f × (name ≡ job.s))
+IsReached files job name = (name ≡ job.f) ⊎ ((f : Net) × IsReadAs files job.f f × (name ≡ job.s))
 
--- both files are read, as these automata
-pub record AreRead (words : List (List ℕ)) (files : Files) (job : Job) (f s : Listing) : Type 0 where
+-- both files are read, as these networks
+pub record AreRead (words : List (List ℕ)) (files : Files) (job : Job) (f s : Net) : Type 0 where
   pub job_is : IsJob words job
   pub f_read : IsReadAs files job.f f
   pub s_read : IsReadAs files job.s s
 
+-- the first refusal of the names of a job, for files that are read as these networks
+abbrev pub RefusesNames : Job → Net → Net → NameRefusal → Type 0
+RefusesNames job f s refusal = first_refusal Sync (NetFile f) (NetFile s) job.ins job.outs ≡ Some refusal
+
+abbrev pub AcceptsNames : Job → Net → Net → Type 0
+AcceptsNames job f s = first_refusal Sync (NetFile f) (NetFile s) job.ins job.outs ≡ None
+
+-- the problem is small enough to be listed
+abbrev pub IsSmallProblem : Net → Net → Type 0
+IsSmallProblem f s = IsSmall (joint_scope (letters_of f) (letters_of s)) f s
+
 -- nothing is refused before the work
-pub record IsProblem (words : List (List ℕ)) (files : Files) (job : Job) (f s : Listing) : Type 0 where
+pub record IsProblem (words : List (List ℕ)) (files : Files) (job : Job) (f s : Net) : Type 0 where
   pub read : AreRead words files job f s
-  pub names : are_good_names (joint_scope f.vars s.vars) job.ins job.outs ≡ true
-  pub small : IsSmall (joint_scope f.vars s.vars) f s
+  pub names : AcceptsNames job f s
+  pub small : IsSmallProblem f s
 
 -- what the program refuses, with the name of the file that the line tells
 pub data Refusal : Type 0 where
   NoJob : Refusal
   TooLong : (name : List ℕ) → Refusal
-  NotPrinted : (name : List ℕ) → Refusal
-  BadNames : Refusal
+  Faulty : (name : List ℕ) → (line : ℕ) → (kind : TextKind) → Refusal
+  BadNames : (refusal : NameRefusal) → Refusal
   TooBig : (name : List ℕ) → Refusal
+
+-- a limit that is passed has a status of its own
+abbrev pub fault_status : TextKind → Status
+fault_status (kinds.Limit which) = status.Limit
+fault_status _ = status.Refused
 
 abbrev pub status_of : Refusal → Status
 status_of NoJob = status.Usage
 status_of (TooLong name) = status.Limit
-status_of (NotPrinted name) = status.Refused
-status_of BadNames = status.Refused
+status_of (Faulty name line kind) = fault_status kind
+status_of (BadNames refusal) = status.Refused
 status_of (TooBig name) = status.Refused
 
 -- the line that the program tells
 abbrev pub line_of : Refusal → List ℕ
-line_of NoJob = codes "balm: usage\n"
-line_of (TooLong name) = codes "balm: " ++ name ++ codes ": Limit Bytes\n"
-line_of (NotPrinted name) = codes "balm: " ++ name ++ codes ":1: NotPrinted\n"
-line_of BadNames = codes "balm: names\n"
-line_of (TooBig name) = codes "balm: " ++ name ++ codes ":1: Small\n"
+line_of NoJob = usage_line
+line_of (TooLong name) = long_line name
+line_of (Faulty name line kind) = fault_line name line kind
+line_of (BadNames refusal) = names_line refusal
+line_of (TooBig name) = fault_line name 1 kinds.Small
 
 -- the words and the files are refused so
 abbrev pub Refuses : List (List ℕ) → Files → Refusal → Type 0
 Refuses words files NoJob = HasNoJob words
 Refuses words files (TooLong name) =
     (job : Job) × IsJob words job × IsReached files job name × (IsWithin (bytes_under files name) → ⊥)
-Refuses words files (NotPrinted name) =
+Refuses words files (Faulty name line kind) =
     (job : Job)
     × IsJob words job
     × IsReached files job name
     × IsWithin (bytes_under files name)
-    × ((auto : Listing) → IsTextOf auto (bytes_under files name) → ⊥)
-Refuses words files BadNames =
-    (job : Job)
-    × (f : Listing)
-    × (s : Listing)
-    × AreRead words files job f s
-    × (are_good_names (joint_scope f.vars s.vars) job.ins job.outs ≡ false)
+    × HasFault (bytes_under files name) line kind
+Refuses words files (BadNames refusal) =
+    (job : Job) × (f : Net) × (s : Net) × AreRead words files job f s × RefusesNames job f s refusal
 Refuses words files (TooBig name) =
     (job : Job)
-    × (f : Listing)
-    × (s : Listing)
+    × (f : Net)
+    × (s : Net)
     × AreRead words files job f s
-    × (are_good_names (joint_scope f.vars s.vars) job.ins job.outs ≡ true)
-    × (IsSmall (joint_scope f.vars s.vars) f s → ⊥)
+    × AcceptsNames job f s
+    × (IsSmallProblem f s → ⊥)
     × (name ≡ job.s)

@@ -1,16 +1,16 @@
-//! Reads the file of an automaton.
+//! Reads the file of a network.
 
 ghost use Rattle.std.specs.Prelude.{◌≡◌, ◌≤◌, ℕ, List, Some, IfOk, IfErr};
 ghost use Rattle.io_core.specs.Files.{Files, bytes_under};
-ghost use Rattle.net_model.specs.Listings.{listing_of};
-ghost use Rattle.net_model.specs.Printed.{IsPrintable};
+ghost use Rattle.net_model.specs.Nets.{net_of};
+ghost use Rattle.net_model.specs.SoundNets.{IsSound};
 ghost use Rattle.balm_top.specs.Refusals.{IsWithin, IsReadAs};
 ghost use Rattle.balm_top.specs.Stops.{StopsAtFile};
 
 use crate::stop::Stop;
-use aut_format::read_printed;
+use blifmv_reader::read_net;
 use io_core::{LoadFault, Shelf};
-use net_model::{Listed, TextFault};
+use net_model::{Net, TextFault};
 use std::alloc::Global;
 
 /// The most bytes of one file.
@@ -36,15 +36,11 @@ fn load_file<'a, H: Shelf>(alloc: Global, shelf: &mut H, name: &'a str) -> Resul
     }
 }
 
-/// The automaton of which a file is the printed text.
-pub fn read_file<'a, H: Shelf>(
-    alloc: Global,
-    shelf: &mut H,
-    name: &'a str,
-) -> Result<Listed, Stop<'a>>
-    ensures ok { IfOk result (λ auto. (files : Files) → H.holds shelf.old ≡ Some files
-        → IsReadAs files name.now (listing_of auto)) }
-    ensures printable { IfOk result (λ auto. IsPrintable (listing_of auto)) }
+/// The network that a file stands for.
+pub fn read_file<'a, H: Shelf>(alloc: Global, shelf: &mut H, name: &'a str) -> Result<Net, Stop<'a>>
+    ensures ok { IfOk result (λ net. (files : Files) → H.holds shelf.old ≡ Some files
+        → IsReadAs files name.now (net_of net)) }
+    ensures sound { IfOk result (λ net. IsSound (net_of net)) }
     ensures stopped { IfErr result (StopsAtFile name.now (H.holds shelf.old) (H.faults shelf.old) (H.faults shelf.new)) }
     ensures kept { H.holds shelf.new ≡ H.holds shelf.old }
     ensures later { (other : List ℕ) → H.faults shelf.old other ≤ H.faults shelf.new other }
@@ -53,9 +49,9 @@ pub fn read_file<'a, H: Shelf>(
         Ok(bytes) => bytes,
         Err(stop) => return Err(stop),
     };
-    match read_printed(alloc, &bytes) {
-        Ok(auto) => Ok(auto),
+    match read_net(alloc, &bytes) {
+        Ok(net) => Ok(net),
         Err(TextFault::Memory) => Err(Stop::Memory),
-        Err(TextFault::At { .. }) => Err(Stop::NotPrinted(name)),
+        Err(TextFault::At { line, kind }) => Err(Stop::Faulty(name, line, kind)),
     }
 }

@@ -1,19 +1,30 @@
 //! From the words to the solution: every step that may refuse, in its order.
 
-ghost use Rattle.std.specs.Prelude.{◌≡◌, ◌<◌, ◌++◌, length, map, IfOk, IfErr};
-ghost use Rattle.net_model.specs.Listings.{listing_of};
+ghost use Rattle.std.specs.Prelude.{◌≡◌, ◌↔◌, map, IsTrue, IfOk, IfErr, MatchBool};
+ghost use Rattle.std.specs.List.{AllByRecursion};
+ghost use Rattle.name_table.specs.Variables.{names_of, are_different};
+ghost use Rattle.net_model.specs.Words.{Word};
+ghost use Rattle.net_model.specs.Equation.{Topology, IsSafe};
+ghost use Rattle.net_model.specs.Listings.{ListingWords, listing_of};
+ghost use Rattle.net_model.specs.Nets.{net_of};
+ghost use Rattle.net_model.specs.NetLanguages.{letters_of, NetWords};
 ghost use Rattle.net_model.specs.Printed.{IsPrintable};
+ghost use Rattle.net_model.specs.SoundNets.{IsSound};
+ghost use Rattle.net_model.specs.Written.{IsTextVariable};
+ghost use Rattle.listed_nets.specs.Small.{IsSmall};
 ghost use Rattle.balm_top.specs.Jobs.{job_of, topology_of};
 ghost use Rattle.balm_top.specs.Stops.{StopsRightly, SolvesRightly, StopsWork, IsWorkable, IsSolved};
+ghost use Rattle.balm_top.specs.Work.{IsFreeName, IsTopologyOf};
 
 use crate::args::Args;
 use crate::files::read_file;
 use crate::request::{Request, request_of};
 use crate::stop::Stop;
 use io_core::Shelf;
-use listed_scopes::{are_good_names, is_small, joint_vars, named_vars};
+use listed_nets::{is_small, listed_of, listed_vars};
 use listed_solve::{Solution, solve_listed};
-use net_model::Listed;
+use name_table::Scope;
+use net_model::{File, Mode, NameList, Net, Problem};
 use std::alloc::{AllocError, Global};
 
 /// Reads the job and its files, and solves it.
@@ -32,60 +43,85 @@ pub fn solution_of<'a, H: Shelf>(
         Err(_) => return Err(Stop::Memory),
     };
     let f = match read_file(alloc, shelf, request.f) {
-        Ok(auto) => auto,
+        Ok(net) => net,
         Err(stop) => return Err(stop),
     };
     let s = match read_file(alloc, shelf, request.s) {
-        Ok(auto) => auto,
+        Ok(net) => net,
         Err(stop) => return Err(stop),
     };
-    solve(alloc, &request, &f, &s)
+    solve(alloc, &request, f, s)
 }
 
 /// Tests the names and the size, and solves.
-fn solve<'a>(
-    alloc: Global,
-    request: &Request<'a>,
-    f: &Listed,
-    s: &Listed,
-) -> Result<Solution, Stop<'a>>
-    requires f_printable { IsPrintable (listing_of f.now) }
-    requires s_printable { IsPrintable (listing_of s.now) }
-    requires names { 0 < length ((job_of request.now).ins ++ (job_of request.now).outs) }
+fn solve<'a>(alloc: Global, request: &Request<'a>, f: Net, s: Net) -> Result<Solution, Stop<'a>>
+    requires f_sound { IsSound (net_of f) }
+    requires s_sound { IsSound (net_of s) }
     ensures printable { IfOk result (λ solution. IsPrintable (listing_of solution.auto)) }
-    ensures solved { IfOk result (λ solution. IsWorkable (job_of request.now) (listing_of f.now) (listing_of s.now)
-        × IsSolved (topology_of (job_of request.now) (listing_of f.now).vars (listing_of s.now).vars)
-        (listing_of f.now) (listing_of s.now) solution) }
-    ensures stopped { IfErr result (StopsWork (job_of request.now) (listing_of f.now) (listing_of s.now)) }
+    ensures solved { IfOk result (λ solution. IsWorkable (job_of request.now) (net_of f) (net_of s)
+        × IsSolved (topology_of (job_of request.now) (letters_of (net_of f)) (letters_of (net_of s)))
+        (net_of f) (net_of s) solution) }
+    ensures stopped { IfErr result (StopsWork (job_of request.now) (net_of f) (net_of s)) }
 {
-    let Ok(joint) = joint_vars(alloc, &f.vars, &s.vars) else {
+    let Ok(ins) = list_of(alloc, &request.ins) else {
         return Err(Stop::Memory);
     };
-    let Ok(names) = names_of(alloc, request) else {
+    let Ok(outs) = list_of(alloc, &request.outs) else {
         return Err(Stop::Memory);
     };
-    if !are_good_names(&joint, &names) {
-        return Err(Stop::BadNames);
-    }
-    if !is_small(&joint, f, s) {
+    let problem = match Problem::build(alloc, Mode::Sync, File::Net(f), File::Net(s), &ins, &outs) {
+        Ok(problem) => problem,
+        Err(refusal) => return Err(Stop::BadNames(refusal)),
+    };
+    let File::Net(f) = problem.f();
+    let File::Net(s) = problem.s();
+    if !is_small(problem.joint(), f, s) {
         return Err(Stop::TooBig(request.s));
     }
-    let Ok(x) = named_vars(alloc, &joint, &names) else {
-        return Err(Stop::Memory);
-    };
-    match solve_listed(alloc, f, s, &joint, x) {
+    match solve_nets(alloc, f, s, problem.joint(), problem.x()) {
         Ok(solution) => Ok(solution),
         Err(_) => Err(Stop::Memory),
     }
 }
 
-/// The names of X's inputs and then those of its outputs.
-fn names_of<'a>(alloc: Global, request: &Request<'a>) -> Result<Vec<&'a str>, AllocError>
-    ensures { IfOk result (λ names. map (λ name. name.now) names.items
-        ≡ (job_of request.now).ins ++ (job_of request.now).outs) }
+/// Lists the two networks, and solves them for an X with these variables.
+fn solve_nets(
+    alloc: Global,
+    f: &Net,
+    s: &Net,
+    joint: &Scope,
+    x: &Scope,
+) -> Result<Solution, AllocError>
+    requires f_sound { IsSound (net_of f.now) }
+    requires s_sound { IsSound (net_of s.now) }
+    requires small { IsSmall joint.now (net_of f.now) (net_of s.now) }
+    requires x_words { AllByRecursion IsTextVariable x.now }
+    requires x_free { AllByRecursion IsFreeName (names_of x.now) }
+    requires x_different { IsTrue (are_different (names_of x.now)) }
+    ensures printable { IfOk result (λ solution. IsPrintable (listing_of solution.auto)) }
+    ensures letters { IfOk result (λ solution. (listing_of solution.auto).vars ≡ x.now) }
+    ensures exact { IfOk result (λ solution. (topology : Topology)
+        → IsTopologyOf topology joint.now x.now (net_of f.now) (net_of s.now)
+        → (word : Word) → ListingWords (listing_of solution.auto) word
+        ↔ IsSafe topology (NetWords (net_of f.now)) (NetWords (net_of s.now)) word) }
+    ensures verdict { IfOk result (λ solution. MatchBool solution.has_word
+        ((word : Word) × ListingWords (listing_of solution.auto) word)
+        ((word : Word) → ListingWords (listing_of solution.auto) word → ⊥)) }
 {
-    let mut names = Vec::new(alloc);
-    names.extend_from_slice(&request.ins)?;
-    names.extend_from_slice(&request.outs)?;
-    Ok(names)
+    let joint = listed_vars(alloc, joint)?;
+    let x = listed_vars(alloc, x)?;
+    let f = listed_of(alloc, f)?;
+    let s = listed_of(alloc, s)?;
+    solve_listed(alloc, &f, &s, &joint, x)
+}
+
+/// The names as a list.
+fn list_of(alloc: Global, names: &[&str]) -> Result<NameList, AllocError>
+    ensures { IfOk result (λ list. list ≡ map (λ name. name.now) names.now) }
+{
+    let mut list = NameList::new(alloc);
+    for name in names {
+        list.push(name.as_bytes())?;
+    }
+    Ok(list)
 }

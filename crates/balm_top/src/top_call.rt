@@ -1,8 +1,9 @@
 //! The top call.
 
-ghost use Rattle.std.specs.Prelude.{◌≡◌, ℕ, codes};
+ghost use Rattle.std.specs.Prelude.{◌≡◌};
 ghost use Rattle.balm_top.specs.Answers.{SolveIsExact, IsTold, RefusedRightly, ReadFaultRightly, WriteFaultRightly, KeepsOut, GainsFrontOfAnswer};
 ghost use Rattle.balm_top.specs.Jobs.{HasNoJob};
+ghost use Rattle.balm_top.specs.Lines.{memory_line};
 ghost use Rattle.balm_top.specs.Statuses.{IsFinished};
 ghost use Rattle.balm_top.specs.Stops.{AnswersRightly, MeansSolution};
 ghost use Rattle.net_model.specs.Listings.{listing_of};
@@ -42,7 +43,7 @@ pub fn run<H: Shelf, O: Sink, E: Sink>(
         result }
     ensures memory { result ≡ Status.Memory
         → IsTold (E.contents err.old) (E.contents err.new) (E.faults err.old) (E.faults err.new) (E.wants err.old) (E.wants err.new)
-        (codes "balm: out of memory\n") }
+        memory_line }
     ensures no_node_limit { result ≡ Status.NodeLimit → ⊥ }
 
     // What out and err have gained.
@@ -77,11 +78,11 @@ fn answer<O: Sink, E: Sink>(alloc: Global, solution: &Solution, out: &mut O, err
             }
         }
         Err(WriteFault::Failed) => {
-            tell(err, b"balm: cannot write\n", "", b"");
+            tell(err, &[b"balm: cannot write\n"]);
             Status::WriteFault
         }
         Err(WriteFault::Memory) => {
-            tell(err, b"balm: out of memory\n", "", b"");
+            tell(err, &[b"balm: out of memory\n"]);
             Status::Memory
         }
     }

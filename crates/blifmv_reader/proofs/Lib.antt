@@ -1,7 +1,10 @@
 pub mod Entries
+pub mod LineWords
+pub mod OutputsOnce
 pub mod Signals
 pub mod Sound
 pub mod Stands
+pub mod TextNames
 pub mod Told
 pub mod Widths
 pub mod Lawful

@@ -1,5 +1,5 @@
 -- Each signal of a text's network has a name.
-use Rattle.std.proofs.Common.{◌≡◌, ◌<◌, ◌≤◌, ◌++◌, ℕ, true, false, List, [], ◌∷◌, length, map, Some, None, unwrap_or, if◌then◌else◌, refl, sym, ◌∙◌, ap, subst}
+use Rattle.std.proofs.Common.{◌≡◌, ◌<◌, ◌≤◌, ◌++◌, ℕ, true, false, List, [], ◌∷◌, length, map, nat_eq, count_by, Some, None, unwrap_or, if◌then◌else◌, refl, sym, ◌∙◌, ap, subst}
 use Rattle.std.specs.List.{All, flat_map}
 use Rattle.std.proofs.lemmas.Bool.{false≢true}
 use Rattle.std.proofs.lemmas.List.{length-map}
@@ -15,6 +15,7 @@ use Rattle.net_model.specs.Conditions.{columns_of}
 use Rattle.net_model.specs.NetTexts.{mentions, distinct, names_in, domain_in, variables_in, place_in, places_in, inputs_on, outputs_on, latches_on, tables_on, resets_on, tables_in, resets_in, net_with}
 use Rattle.net_model.specs.SoundNets.{HasKnownSignals}
 use Rattle.blifmv_names.proofs.Gathered.{AreThere, all_there}
+use Rattle.blifmv_reader.proofs.OutputsOnce.{counted_once}
 
 -- names among others
 
@@ -191,3 +192,11 @@ known_signals text table =
       latches = all_latches vars text there;
       resets = all_resets vars text there;
     }
+
+-- and each output stands once among its outputs
+pub outputs_once : (text : List Form) (signal : ℕ) → count_by (nat_eq signal) (places_in (variables_in text) (distinct [] (flat_map outputs_on text))) ≤ 1
+outputs_once text signal =
+    let vars = variables_in text in
+    counted_once vars (distinct [] (flat_map outputs_on text)) signal
+    (there_distinct (names_of vars) [] (flat_map outputs_on text) tt (all_outputs (names_of vars) text (there_in text)))
+    (distinct_differ [] (flat_map outputs_on text) refl)

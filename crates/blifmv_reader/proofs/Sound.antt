@@ -1,7 +1,7 @@
 -- The network that a text says is sound.
 use Rattle.std.proofs.Common.{◌≡◌, ℕ, Bool, true, false, List, [], ◌∷◌, map, Option, Some, None, is_some, unwrap_or, MatchOption, refl, sym, ◌∙◌, ap, subst}
 use Rattle.std.specs.Option.{option_map}
-use Rattle.std.specs.List.{All, AllZip}
+use Rattle.std.specs.List.{All, AllByRecursion, AllZip}
 use Rattle.std.proofs.lemmas.Bool.{false≢true, and_parts}
 use Rattle.std.proofs.lemmas.List.Elements.{All-nil, All-cons, All-append}
 use Rattle.name_table.specs.Variables.{IsTable}
@@ -13,7 +13,8 @@ use Rattle.net_model.specs.Conditions.{MeetsConditions}
 use Rattle.net_model.specs.NetTexts.{variables_in, places_in, row_said, default_said, rows_under, default_under, table_said, tables_on, resets_on, tables_in, resets_in, net_with, open_behind, rows_stand, OpenTable}
 use Rattle.net_model.specs.SoundNets.{IsRowOf, IsOutputEntry, IsTableOf, IsSound}
 use Rattle.blifmv_reader.proofs.Entries.{sizes_in, row_within, default_within}
-use Rattle.blifmv_reader.proofs.Signals.{known_signals}
+use Rattle.net_model.specs.Written.{IsTextVariable}
+use Rattle.blifmv_reader.proofs.Signals.{known_signals, outputs_once}
 
 -- rows and the default under a table
 
@@ -111,19 +112,21 @@ all_resets_sound net open_table (form ∷ text) h =
     All-append (IsTableOf net) (resets_on net.names form text) (resets_in net.names text) (resets_sound net form open_table text rest)
     (all_resets_sound net (open_behind net.names open_table form) text rest)
 
-sound_said : (text : List Form) → IsTable (variables_in text) → rows_stand (variables_in text) None text ≡ true → MeetsConditions (net_with (variables_in text) text) → IsSound (net_with (variables_in text) text)
-sound_said text table rows conditions =
+sound_said : (text : List Form) → IsTable (variables_in text) → AllByRecursion IsTextVariable (variables_in text) → rows_stand (variables_in text) None text ≡ true → MeetsConditions (net_with (variables_in text) text) → IsSound (net_with (variables_in text) text)
+sound_said text table names rows conditions =
     let net = net_with (variables_in text) text in
     record {
       known = known_signals text table;
+      names = names;
+      outputs_once = outputs_once text;
       tables = all_tables_sound net None text rows;
       resets = all_resets_sound net None text rows;
       conditions = conditions;
     }
 
 -- a network that was read is sound
-pub sound_net : (text : List Form) (vars : Scope) (net : Net) → IsTable vars → vars ≡ variables_in text → rows_stand vars None text ≡ true → net ≡ net_with vars text → MeetsConditions net → IsSound net
-sound_net text vars net table is rows says conditions =
+pub sound_net : (text : List Form) (vars : Scope) (net : Net) → IsTable vars → AllByRecursion IsTextVariable (variables_in text) → vars ≡ variables_in text → rows_stand vars None text ≡ true → net ≡ net_with vars text → MeetsConditions net → IsSound net
+sound_net text vars net table names is rows says conditions =
     let same : net ≡ net_with (variables_in text) text = says ∙ ap (λ v. net_with v text) is in
     subst IsSound (sym same)
-    (sound_said text (subst IsTable is table) (ap (λ v. rows_stand v None text) (sym is) ∙ rows) (subst MeetsConditions same conditions))
+    (sound_said text (subst IsTable is table) names (ap (λ v. rows_stand v None text) (sym is) ∙ rows) (subst MeetsConditions same conditions))

@@ -57,19 +57,3 @@ stands_net bytes vars net lines is rows says conditions = record {
   says = says ∙ ap (λ v. net_with v (text_in bytes)) is;
   conditions = conditions;
 }
-
-same_some : (text other : List Form) → map Some text ≡ map Some other → text ≡ other
-same_some [] [] h = refl
-same_some [] (g ∷ other) h = cc
-same_some (f ∷ text) [] h = cc
-same_some (f ∷ text) (g ∷ other) h =
-    let first : Some f ≡ Some g = cc in
-    let same : f ≡ g = cc in
-    let rest : map Some text ≡ map Some other = cc in
-    λ i. same i ∷ same_some text other rest i
-
--- bytes stand for one network at most
-pub one_net : (bytes : List ℕ) (net other : Net) → StandsForNet bytes net → StandsForNet bytes other → net ≡ other
-one_net bytes net other h k =
-    let same : h.text ≡ k.text = same_some h.text k.text (sym h.lines.lines ∙ k.lines.lines) in
-    h.says ∙ (ap net_said same ∙ sym k.says)

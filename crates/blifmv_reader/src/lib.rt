@@ -8,6 +8,8 @@
 mod laws;
 mod network;
 #[cfg(test)]
+mod problem_tests;
+#[cfg(test)]
 mod tests;
 
 pub use laws::texts_without_fault;

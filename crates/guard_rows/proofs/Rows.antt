@@ -1,4 +1,4 @@
-use Rattle.std.proofs.Common.{◌≡◌, ◌∙◌, refl, sym, ap, subst, arith, ◌+◌, ◌^◌, ◌<◌, ◌≤◌, ◌==◌, ℕ, zero, suc, Bool, true, false, ◌&&◌, List, [], ◌∷◌, ◌++◌, length, take, get_or, cond, inl, inr, add-one, append_assoc}
+use Rattle.std.proofs.Common.{◌≡◌, ◌∙◌, refl, sym, ap, subst, arith, ◌+◌, ◌<◌, ◌≤◌, ◌==◌, ℕ, zero, suc, Bool, true, false, ◌&&◌, List, [], ◌∷◌, ◌++◌, length, take, get_or, cond, inl, inr, add-one, append_assoc}
 use Rattle.std.specs.List.{AllByRecursion, list_any, flat_map}
 use Rattle.std.proofs.lemmas.Bool.{cond_both, cond-true, cond-false, or_cases, or_left, or_right, eqb-true, eq-eqb, cases_eq, ne_eqb}
 use Rattle.std.proofs.lemmas.List.{get_or-map, take_more, take_all, append-nil, length-map}
@@ -7,11 +7,12 @@ use Rattle.std.proofs.lemmas.List.Elements.{All-from_recursion}
 use Rattle.std.proofs.lemmas.List.Folds.{list_any-append, list_any_at}
 use Rattle.net_model.specs.Words.{Scope, Letter, IsLetter}
 use Rattle.net_model.specs.Listings.{Row, allows}
-use Rattle.net_model.specs.Printed.{IsPrintedVariable, IsPrintedRow, AreEntries}
-use Rattle.automata_laws.specs.Letters.{letter_place}
+use Rattle.net_model.specs.Printed.{IsPrintedRow, AreEntries}
+use Rattle.automata_laws.specs.Letters.{letter_count, letter_place}
+use Rattle.automata_laws.proofs.Places.{place_below}
 use Rattle.guard_rows.specs.Guards.{AreRowsOf, cubes_of, marks_to, rows_of_guard}
 use Rattle.guard_rows.proofs.Lists.{or_false, and_false, and_true, any_map, any_agree, any_and, any_flat_map, all_append, all_map, all_flat_map, all_sure}
-use Rattle.guard_rows.proofs.CubeLetters.{count_is, place_below, cubes_allow, cubes_are_entries}
+use Rattle.guard_rows.proofs.CubeLetters.{cubes_allow, cubes_are_entries}
 
 -- whether this target stands before place i
 abbrev pub stands_before : List ℕ → ℕ → ℕ → Bool
@@ -23,40 +24,40 @@ targets_before targets zero = []
 targets_before targets (suc i) =
     targets_before targets i ++ cond (stands_before targets i (get_or targets i 0)) [] (get_or targets i 0 ∷ [])
 
-abbrev pub rows_to : ℕ → ℕ → List ℕ → ℕ → List Row
-rows_to vars present targets q = rows_of_guard present q (cubes_of vars (marks_to q targets))
+abbrev pub rows_to : Scope → ℕ → List ℕ → ℕ → List Row
+rows_to scope present targets q = rows_of_guard present q (cubes_of scope (marks_to q targets))
 
 -- the rows of the targets before place i
-abbrev pub rows_before : ℕ → ℕ → List ℕ → ℕ → List Row
-rows_before vars present targets i = flat_map (rows_to vars present targets) (targets_before targets i)
+abbrev pub rows_before : Scope → ℕ → List ℕ → ℕ → List Row
+rows_before scope present targets i = flat_map (rows_to scope present targets) (targets_before targets i)
 
 -- one place on
-pub rows_again : (vars present : ℕ) (targets : List ℕ) (i : ℕ) → stands_before targets i (get_or targets i 0) ≡ true
-    → rows_before vars present targets (i + 1) ≡ rows_before vars present targets i
-rows_again vars present targets i stood =
-    ap (rows_before vars present targets) (add-one i)
-    ∙ (ap (λ more. flat_map (rows_to vars present targets) (targets_before targets i ++ more)) (cond-true _ _ _ stood)
-    ∙ ap (flat_map (rows_to vars present targets)) (append-nil (targets_before targets i)))
+pub rows_again : (scope : Scope) (present : ℕ) (targets : List ℕ) (i : ℕ) → stands_before targets i (get_or targets i 0) ≡ true
+    → rows_before scope present targets (i + 1) ≡ rows_before scope present targets i
+rows_again scope present targets i stood =
+    ap (rows_before scope present targets) (add-one i)
+    ∙ (ap (λ more. flat_map (rows_to scope present targets) (targets_before targets i ++ more)) (cond-true _ _ _ stood)
+    ∙ ap (flat_map (rows_to scope present targets)) (append-nil (targets_before targets i)))
 
-pub rows_more : (vars present : ℕ) (targets : List ℕ) (i : ℕ) → stands_before targets i (get_or targets i 0) ≡ false
-    → rows_before vars present targets (i + 1) ≡ rows_before vars present targets i ++ rows_to vars present targets (get_or targets i 0)
-rows_more vars present targets i unseen =
-    ap (rows_before vars present targets) (add-one i)
-    ∙ (ap (λ more. flat_map (rows_to vars present targets) (targets_before targets i ++ more)) (cond-false _ _ _ unseen)
-    ∙ (flat_map-append (rows_to vars present targets) (targets_before targets i) (get_or targets i 0 ∷ [])
-    ∙ ap (λ more. rows_before vars present targets i ++ more) (append-nil (rows_to vars present targets (get_or targets i 0)))))
+pub rows_more : (scope : Scope) (present : ℕ) (targets : List ℕ) (i : ℕ) → stands_before targets i (get_or targets i 0) ≡ false
+    → rows_before scope present targets (i + 1) ≡ rows_before scope present targets i ++ rows_to scope present targets (get_or targets i 0)
+rows_more scope present targets i unseen =
+    ap (rows_before scope present targets) (add-one i)
+    ∙ (ap (λ more. flat_map (rows_to scope present targets) (targets_before targets i ++ more)) (cond-false _ _ _ unseen)
+    ∙ (flat_map-append (rows_to scope present targets) (targets_before targets i) (get_or targets i 0 ∷ [])
+    ∙ ap (λ more. rows_before scope present targets i ++ more) (append-nil (rows_to scope present targets (get_or targets i 0)))))
 
 -- the same, of what stands in a list after the rows that were there
-pub rows_joined : (vars present : ℕ) (targets : List ℕ) (i : ℕ) (letters : List Bool) (old front now : List Row)
+pub rows_joined : (scope : Scope) (present : ℕ) (targets : List ℕ) (i : ℕ) (letters : List Bool) (old front now : List Row)
     → stands_before targets i (get_or targets i 0) ≡ false → letters ≡ marks_to (get_or targets i 0) targets
-    → front ≡ old ++ rows_before vars present targets i → now ≡ front ++ rows_of_guard present (get_or targets i 0) (cubes_of vars letters)
-    → now ≡ old ++ rows_before vars present targets (i + 1)
-rows_joined vars present targets i letters old front now unseen marks so_far pushed =
+    → front ≡ old ++ rows_before scope present targets i → now ≡ front ++ rows_of_guard present (get_or targets i 0) (cubes_of scope letters)
+    → now ≡ old ++ rows_before scope present targets (i + 1)
+rows_joined scope present targets i letters old front now unseen marks so_far pushed =
     pushed
-    ∙ (ap (λ ls. front ++ rows_of_guard present (get_or targets i 0) (cubes_of vars ls)) marks
-    ∙ (ap (λ rows. rows ++ rows_to vars present targets (get_or targets i 0)) so_far
-    ∙ (append_assoc old (rows_before vars present targets i) (rows_to vars present targets (get_or targets i 0))
-    ∙ ap (λ rows. old ++ rows) (sym (rows_more vars present targets i unseen)))))
+    ∙ (ap (λ ls. front ++ rows_of_guard present (get_or targets i 0) (cubes_of scope ls)) marks
+    ∙ (ap (λ rows. rows ++ rows_to scope present targets (get_or targets i 0)) so_far
+    ∙ (append_assoc old (rows_before scope present targets i) (rows_to scope present targets (get_or targets i 0))
+    ∙ ap (λ rows. old ++ rows) (sym (rows_more scope present targets i unseen)))))
 
 -- what stands before place i is among the targets before it
 targets_kept : (targets : List ℕ) (i : ℕ) → i ≤ length targets → (q : ℕ) → stands_before targets i q ≡ true
@@ -90,37 +91,35 @@ one_target w q x = elim (cases_eq w x) [
       ∙ (and_false (x == q) ∙ sym (ap (λ b. (w == q) && b) (ne_eqb x w (λ e. other (sym e))) ∙ and_false (w == q)))
 ]
 
-rows_to_lead : (scope : Scope) (present : ℕ) (targets : List ℕ) → AllByRecursion IsPrintedVariable scope → length targets ≡ 2 ^ length scope
+rows_to_lead : (scope : Scope) (present : ℕ) (targets : List ℕ) → length targets ≡ letter_count scope
     → (a : Letter) → IsLetter scope a → (q x : ℕ)
-    → list_any (λ row. (row.next == q) && allows row.entries a) (rows_to (length scope) present targets x)
+    → list_any (λ row. (row.next == q) && allows row.entries a) (rows_to scope present targets x)
     ≡ ((get_or targets (letter_place scope a) 0 == q) && (x == get_or targets (letter_place scope a) 0))
-rows_to_lead scope present targets binary whole a is q x =
-    let count = count_is scope binary in
+rows_to_lead scope present targets whole a is q x =
     let below = place_below scope a is in
-    let inside : letter_place scope a < length targets = omega (arith, count, below, whole) in
-    let cubes = cubes_of (length scope) (marks_to x targets) in
+    let inside : letter_place scope a < length targets = omega (arith, below, whole) in
+    let cubes = cubes_of scope (marks_to x targets) in
     any_map (λ row. (row.next == q) && allows row.entries a) (λ entries. record { entries = entries; present = present; next = x }) cubes
     ∙ (any_and (x == q) (λ entries. allows entries a) cubes
     ∙ (ap (λ b. (x == q) && b)
-    (cubes_allow scope (marks_to x targets) a binary (length-map targets (λ other. other == x) ∙ whole) is
+    (cubes_allow scope (marks_to x targets) a (length-map targets (λ other. other == x) ∙ whole) is
     ∙ get_or-map (λ other. other == x) targets (letter_place scope a) 0 false inside)
     ∙ one_target (get_or targets (letter_place scope a) 0) q x))
 
-rows_lead : (scope : Scope) (present : ℕ) (targets : List ℕ) → AllByRecursion IsPrintedVariable scope → length targets ≡ 2 ^ length scope
+rows_lead : (scope : Scope) (present : ℕ) (targets : List ℕ) → length targets ≡ letter_count scope
     → (a : Letter) → IsLetter scope a → (q : ℕ)
-    → list_any (λ row. (row.next == q) && allows row.entries a) (rows_before (length scope) present targets (length targets))
+    → list_any (λ row. (row.next == q) && allows row.entries a) (rows_before scope present targets (length targets))
     ≡ (get_or targets (letter_place scope a) 0 == q)
-rows_lead scope present targets binary whole a is q =
-    let count = count_is scope binary in
+rows_lead scope present targets whole a is q =
     let below = place_below scope a is in
-    let inside : letter_place scope a < length targets = omega (arith, count, below, whole) in
+    let inside : letter_place scope a < length targets = omega (arith, below, whole) in
     let w = get_or targets (letter_place scope a) 0 in
     let every = targets_before targets (length targets) in
     let stands : stands_before targets (length targets) w ≡ true =
     ap (list_any (λ target. target == w)) (take_all (length targets) targets (omega arith))
     ∙ list_any_at (λ target. target == w) targets (letter_place scope a) 0 inside (eq-eqb w w refl) in
-    any_flat_map (λ row. (row.next == q) && allows row.entries a) (rows_to (length scope) present targets) every
-    ∙ (any_agree _ _ (rows_to_lead scope present targets binary whole a is q) every
+    any_flat_map (λ row. (row.next == q) && allows row.entries a) (rows_to scope present targets) every
+    ∙ (any_agree _ _ (rows_to_lead scope present targets whole a is q) every
     ∙ (any_and (w == q) (λ x. x == w) every
     ∙ (ap (λ b. (w == q) && b) (targets_kept targets (length targets) (omega arith) w stands) ∙ and_true (w == q))))
 
@@ -134,26 +133,25 @@ targets_below n targets each (suc i) within =
     (λ seen. tt) (λ unseen. (here, tt)))
 
 -- The rows of all targets are the rows of the state.
-pub rows_are : (scope : Scope) (present : ℕ) (targets : List ℕ) → AllByRecursion IsPrintedVariable scope → length targets ≡ 2 ^ length scope
-    → AreRowsOf scope present targets (rows_before (length scope) present targets (length targets))
-rows_are scope present targets binary whole = record {
+pub rows_are : (scope : Scope) (present : ℕ) (targets : List ℕ) → length targets ≡ letter_count scope
+    → AreRowsOf scope present targets (rows_before scope present targets (length targets))
+rows_are scope present targets whole = record {
   same_state =
-      all_flat_map (λ x. Unit {0}) (λ row. row.present ≡ present) (rows_to (length scope) present targets)
+      all_flat_map (λ x. Unit {0}) (λ row. row.present ≡ present) (rows_to scope present targets)
       (λ x any. all_map (λ entries. Unit {0}) (λ row. row.present ≡ present) (λ entries. record { entries = entries; present = present; next = x })
-      (λ entries any. refl) (cubes_of (length scope) (marks_to x targets)) (all_sure (λ entries. Unit {0}) (λ entries. tt) _))
+      (λ entries any. refl) (cubes_of scope (marks_to x targets)) (all_sure (λ entries. Unit {0}) (λ entries. tt) _))
       (targets_before targets (length targets)) (all_sure (λ x. Unit {0}) (λ x. tt) _);
-  leads = rows_lead scope present targets binary whole;
+  leads = rows_lead scope present targets whole;
   printed = λ n below each.
-      all_flat_map (λ x. x < n) (IsPrintedRow scope n) (rows_to (length scope) present targets)
+      all_flat_map (λ x. x < n) (IsPrintedRow scope n) (rows_to scope present targets)
       (λ x few. all_map (AreEntries scope) (IsPrintedRow scope n) (λ entries. record { entries = entries; present = present; next = x })
       (λ entries are. record { entries = are; present = below; next = few })
-      (cubes_of (length scope) (marks_to x targets)) (cubes_are_entries scope (marks_to x targets) binary))
+      (cubes_of scope (marks_to x targets)) (cubes_are_entries scope (marks_to x targets) (length-map targets (λ other. other == x) ∙ whole)))
       (targets_before targets (length targets)) (targets_below n targets each (length targets) (omega arith));
 }
 
-pub rows_of_state : (vars present : ℕ) (targets : List ℕ) (i : ℕ) → length targets ≡ 2 ^ vars → i ≡ length targets
-    → (scope : Scope) → length scope ≡ vars → AllByRecursion IsPrintedVariable scope
-    → AreRowsOf scope present targets (rows_before vars present targets i)
-rows_of_state vars present targets i whole end scope few binary =
-    let same = ap (λ n. rows_before n present targets (length targets)) few ∙ ap (rows_before vars present targets) (sym end) in
-    subst (AreRowsOf scope present targets) same (rows_are scope present targets binary (whole ∙ ap (λ n. 2 ^ n) (sym few)))
+pub rows_of_state : (scope : Scope) (present : ℕ) (targets : List ℕ) (i : ℕ) → length targets ≡ letter_count scope → i ≡ length targets
+    → AreRowsOf scope present targets (rows_before scope present targets i)
+rows_of_state scope present targets i whole end =
+    let P : ℕ → Type 0 = λ n. AreRowsOf scope present targets (rows_before scope present targets n) in
+    subst P (sym end) (rows_are scope present targets whole)

@@ -1,36 +1,50 @@
-//! The rows of guards: for each target of a state the letters that lead to it, as cubes. A cube fixes some of the
-//! variables and leaves the others free.
+//! The rows of guards: for each target of a state the letters that lead to it, as cubes. A cube allows each variable some
+//! of its values, those whose codes have the bits that the cube fixes.
 #![tactic(auto)]
 
-ghost use Rattle.std.specs.Prelude.{◌≡◌, ◌^◌, ◌++◌, List, length, map, IfOk, OnOk};
+mod bits;
+
+ghost use Rattle.std.specs.Prelude.{◌≡◌, ◌<◌, ◌++◌, List, [], length, map, IfOk, OnOk};
 ghost use Rattle.std.specs.List.{AllByRecursion};
-ghost use Rattle.net_model.specs.Words.{Scope};
-ghost use Rattle.net_model.specs.Listings.{Row, row_of};
-ghost use Rattle.net_model.specs.Printed.{IsPrintedVariable};
+ghost use Rattle.net_model.specs.Listings.{Row, row_of, scope_of};
+ghost use Rattle.automata_laws.specs.Letters.{HasFewValues, letter_count};
 ghost use Rattle.guard_rows.specs.Guards.{AreRowsOf, entries_of, with_entry, cubes_of, marks_to, rows_of_guard};
 
-use net_model::{ListedRow, ValueSet};
+use bits::{branches, code_bits, coded};
+use net_model::{ListedRow, ListedVar, ValueSet};
 use std::alloc::{AllocError, Global};
 
-/// The cubes that together allow exactly the letters of a set, over `vars` binary variables. A set is told by a mark for
-/// each letter, in the order of the letters. Where fixing the first variable to 0 and to 1 leaves the same set, the variable
-/// stays free.
-fn cubes(alloc: Global, vars: usize, set: &[bool]) -> Result<Vec<Vec<ValueSet>>, AllocError>
-    ensures { IfOk result (λ cubes. map entries_of cubes.items ≡ cubes_of vars set.now) }
+/// The cubes that together allow exactly the letters of a set over these variables. A set is told by a mark for each
+/// letter, in the order of the letters.
+fn cubes(alloc: Global, vars: &[ListedVar], set: &[bool]) -> Result<Vec<Vec<ValueSet>>, AllocError>
+    requires few { AllByRecursion HasFewValues (scope_of vars.now) }
+    requires whole { length set.now ≡ letter_count (scope_of vars.now) }
+    requires some { 0 < length set.now }
+    ensures { IfOk result (λ cubes. map entries_of cubes.items ≡ cubes_of (scope_of vars.now) set.now) }
+{
+    match vars {
+        [] => only_cube(alloc, set),
+        [var, rest @ ..] => {
+            let values = var.values.len();
+            let bits = code_bits(values);
+            let codes = coded(alloc, values, bits, set.len() / values, set)?;
+            let mut rows = Vec::new(alloc);
+            for branch in &branches(alloc, bits, &codes)? {
+                let tails = cubes(alloc, rest, branch.letters)?;
+                push_cubes(alloc, &branch.values, tails, &mut rows)?;
+            }
+            Ok(rows)
+        }
+    }
+}
+
+/// The cube without entries, where the set has the letter over no variables.
+fn only_cube(alloc: Global, set: &[bool]) -> Result<Vec<Vec<ValueSet>>, AllocError>
+    ensures { IfOk result (λ cubes. map entries_of cubes.items ≡ cubes_of [] set.now) }
 {
     let mut rows = Vec::new(alloc);
-    if vars == 0 {
-        if set.contains(&true) {
-            rows.push(Vec::new(alloc))?;
-        }
-        return Ok(rows);
-    }
-    let (low, high) = set.split_at(set.len() / 2);
-    if low == high {
-        push_cubes(alloc, &[0, 1], cubes(alloc, vars - 1, low)?, &mut rows)?;
-    } else {
-        push_cubes(alloc, &[0], cubes(alloc, vars - 1, low)?, &mut rows)?;
-        push_cubes(alloc, &[1], cubes(alloc, vars - 1, high)?, &mut rows)?;
+    if set.contains(&true) {
+        rows.push(Vec::new(alloc))?;
     }
     Ok(rows)
 }
@@ -66,21 +80,21 @@ fn set_of(alloc: Global, values: &[u32]) -> Result<ValueSet, AllocError>
 }
 
 /// Adds the rows of state `present`, which each letter leads to the state that stands at its place in `targets`: the
-/// targets in the order of the least letter that leads to them. The letters are those over `vars` binary variables.
-/// The time grows at worst with the square of the number of letters, times `vars`. Where memory runs out, some of the rows
-/// may have been added.
+/// targets in the order of the least letter that leads to them, and of one target the rows bit by bit, as `specs/` says.
+/// The time grows at worst with the square of the number of letters, times the bits of a letter's code. Where memory runs
+/// out, some of the rows may have been added.
 pub fn push_rows(
     alloc: Global,
-    vars: usize,
+    vars: &[ListedVar],
     present: u32,
     targets: &[u32],
     rows: &mut Vec<ListedRow>,
 ) -> Result<(), AllocError>
-    requires { length targets.now ≡ 2 ^ vars }
+    requires few { AllByRecursion HasFewValues (scope_of vars.now) }
+    requires targets { length targets.now ≡ letter_count (scope_of vars.now) }
     ensures { OnOk result ((more : List Row)
         × (map row_of rows.new.items ≡ map row_of rows.old.items ++ more)
-        × ((scope : Scope) → length scope ≡ vars → AllByRecursion IsPrintedVariable scope
-        → AreRowsOf scope present targets.now more)) }
+        × AreRowsOf (scope_of vars.now) present targets.now more) }
 {
     for (i, target) in targets.iter().enumerate() {
         if !targets[..i].contains(target) {
@@ -101,14 +115,17 @@ fn letters_to(alloc: Global, target: u32, targets: &[u32]) -> Result<Vec<bool>, 
 /// Adds the rows from `present` to `next` by these letters.
 fn push_guard(
     alloc: Global,
-    vars: usize,
+    vars: &[ListedVar],
     present: u32,
     next: u32,
     letters: &[bool],
     rows: &mut Vec<ListedRow>,
 ) -> Result<(), AllocError>
+    requires few { AllByRecursion HasFewValues (scope_of vars.now) }
+    requires whole { length letters.now ≡ letter_count (scope_of vars.now) }
+    requires some { 0 < length letters.now }
     ensures { OnOk result (map row_of rows.new.items
-        ≡ map row_of rows.old.items ++ rows_of_guard present next (cubes_of vars letters.now)) }
+        ≡ map row_of rows.old.items ++ rows_of_guard present next (cubes_of (scope_of vars.now) letters.now)) }
 {
     for entries in cubes(alloc, vars, letters)? {
         rows.push(ListedRow {
@@ -121,53 +138,4 @@ fn push_guard(
 }
 
 #[cfg(test)]
-mod tests {
-    use super::*;
-    use std::test::Fail;
-
-    fn has_entries(row: &ListedRow, entries: &[&[u32]]) -> bool {
-        if row.entries.len() != entries.len() {
-            return false;
-        }
-        for (set, values) in row.entries.iter().zip(entries) {
-            if set.values.as_slice() != *values {
-                return false;
-            }
-        }
-        true
-    }
-
-    #[test]
-    fn each_target_has_its_rows(rt: HostRuntime) -> Result<(), Fail> {
-        let alloc = rt.alloc();
-        let mut rows = Vec::new(alloc);
-        push_rows(alloc, 2, 5, &[0, 1, 1, 0], &mut rows)?;
-        let wanted: [(&[&[u32]], u32); 4] = [
-            (&[&[0], &[0]], 0),
-            (&[&[1], &[1]], 0),
-            (&[&[0], &[1]], 1),
-            (&[&[1], &[0]], 1),
-        ];
-        assert_eq!(rt; rows.len(), 4);
-        for (row, (entries, next)) in rows.iter().zip(&wanted) {
-            assert!(rt; has_entries(row, entries));
-            assert_eq!(rt; row.present, 5);
-            assert_eq!(rt; row.next, *next);
-        }
-        Ok(())
-    }
-
-    #[test]
-    fn one_target_leaves_the_variables_free(rt: HostRuntime) -> Result<(), Fail> {
-        let alloc = rt.alloc();
-        let mut rows = Vec::new(alloc);
-        push_rows(alloc, 2, 5, &[3, 3, 3, 3], &mut rows)?;
-        assert_eq!(rt; rows.len(), 1);
-        for row in &rows {
-            assert!(rt; has_entries(row, &[&[0, 1], &[0, 1]]));
-            assert_eq!(rt; row.present, 5);
-            assert_eq!(rt; row.next, 3);
-        }
-        Ok(())
-    }
-}
+mod tests;

@@ -18,4 +18,4 @@ pub use honest_sink::HonestSink;
 pub use mem_shelf::MemShelf;
 pub use mem_sink::MemSink;
 pub use shelf::{LoadFault, Shelf};
-pub use sink::{Sink, SinkFault, WriteFault, write_all, write_three};
+pub use sink::{Sink, SinkFault, WriteFault, write_all, write_pieces};

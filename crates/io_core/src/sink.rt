@@ -1,9 +1,9 @@
-//! A sink takes bytes piece by piece. A text is written whole by `write_all`, and a line that is made of
-//! three pieces by `write_three`, which takes no memory to join them.
+//! A sink takes bytes piece by piece. A text is written whole by `write_all`, and a line that is at hand in pieces by
+//! `write_pieces`, which takes no memory to join them.
 
 ghost use Rattle.std.specs.Prelude.{◌≡◌, ℕ, ◌+◌, ◌<◌, ◌≤◌, List, ◌++◌, length, take, Option, IfOk, OnOk, OnErr};
 ghost use Rattle.io_core.specs.Causes.{PutCause, WriteCause};
-ghost use Rattle.io_core.specs.Gained.{gained, GainsFrontOf};
+ghost use Rattle.io_core.specs.Gained.{gained, joined, GainsFrontOf};
 
 use thiserror::Error;
 
@@ -64,28 +64,14 @@ pub fn write_all<O: Sink>(sink: &mut O, bytes: &[u8]) -> Result<(), WriteFault>
     Ok(())
 }
 
-/// Writes one text that is at hand in three pieces.
-pub fn write_three<O: Sink>(
-    sink: &mut O,
-    first: &[u8],
-    second: &[u8],
-    third: &[u8],
-) -> Result<(), WriteFault>
-    ensures ok { OnOk result (O.contents sink.new
-        ≡ gained (O.contents sink.old) (first.now ++ second.now ++ third.now)) }
-    ensures refused { OnErr result (GainsFrontOf (O.contents sink.old) (O.contents sink.new)
-        (first.now ++ second.now ++ third.now)) }
+/// Writes one text that is at hand in pieces, without joining them in memory.
+pub fn write_pieces<O: Sink>(sink: &mut O, pieces: &[&[u8]]) -> Result<(), WriteFault>
+    ensures ok { OnOk result (O.contents sink.new ≡ gained (O.contents sink.old) (joined pieces.now)) }
+    ensures refused { OnErr result (GainsFrontOf (O.contents sink.old) (O.contents sink.new) (joined pieces.now)) }
     ensures cause { WriteCause (O.faults sink.old) (O.faults sink.new) (O.wants sink.old) (O.wants sink.new) result }
 {
-    write_two(sink, first, second)?;
-    write_all(sink, third)
-}
-
-fn write_two<O: Sink>(sink: &mut O, first: &[u8], second: &[u8]) -> Result<(), WriteFault>
-    ensures ok { OnOk result (O.contents sink.new ≡ gained (O.contents sink.old) (first.now ++ second.now)) }
-    ensures refused { OnErr result (GainsFrontOf (O.contents sink.old) (O.contents sink.new) (first.now ++ second.now)) }
-    ensures cause { WriteCause (O.faults sink.old) (O.faults sink.new) (O.wants sink.old) (O.wants sink.new) result }
-{
-    write_all(sink, first)?;
-    write_all(sink, second)
+    for piece in pieces {
+        write_all(sink, piece)?;
+    }
+    Ok(())
 }

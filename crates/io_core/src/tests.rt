@@ -18,7 +18,7 @@ fn an_honest_sink_takes_all(rt: HostRuntime) -> Result<(), Fail> {
     let mut sink = HonestSink::new(rt.alloc());
     assert_eq!(rt; sink.put(b"abc"), Ok(3));
     write_all(&mut sink, b"def")?;
-    write_three(&mut sink, b"cannot read ", b"x", b"\n")?;
+    write_pieces(&mut sink, &[b"cannot read ", b"x", b"\n"])?;
     assert_eq!(rt; sink.taken(), b"abcdefcannot read x\n".as_slice());
     Ok(())
 }
@@ -29,7 +29,7 @@ fn a_sink_with_room_takes_a_front(rt: HostRuntime) -> Result<(), Fail> {
     let mut sink = MemSink::new(alloc, Vec::new(alloc), 10);
     write_all(&mut sink, b"abc")?;
     assert_eq!(rt;
-        write_three(&mut sink, b"de", b"fghij", b"klm"),
+        write_pieces(&mut sink, &[b"de", b"fghij", b"klm"]),
         Err(WriteFault::Failed)
     );
     assert_eq!(rt; sink.taken(), b"abcdefghij".as_slice());

@@ -1,3 +1,4 @@
 mod Fronts
 mod Standing
 mod Agreement
+pub mod Made

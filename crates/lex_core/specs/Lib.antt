@@ -4,3 +4,4 @@ pub mod Tokens
 pub mod Forward
 pub mod Spans
 pub mod InOrder
+pub mod TextWords

@@ -12,7 +12,7 @@ mod sign;
 mod tests;
 mod words;
 
-pub use laws::lines_are_in_order;
+pub use laws::{lines_are_in_order, words_are_of_word_bytes};
 pub use line::Line;
 pub use lines::Lines;
 pub use words::{Span, Words};

@@ -1,4 +1,3 @@
-pub mod Binary
 pub mod Lists
 pub mod Members
 pub mod SamePairs

@@ -1,7 +1,8 @@
 use Rattle.std.proofs.Common.{◌≡◌, ℕ, ◌+◌, ◌<◌, Bool, true, false, cond, List, [], ◌∷◌, ◌++◌, map, filter, refl, ap, sym, ◌∙◌, zero-add, append_assoc, append-nil, arith}
-use Rattle.std.specs.List.{list_any, range_with_len}
+use Rattle.std.specs.List.{list_any, flat_map, range_with_len}
 use Rattle.std.proofs.lemmas.Bool.{or_from}
 use Rattle.std.proofs.lemmas.List.{map-append, map-id}
+use Rattle.std.proofs.lemmas.List.Concat.{flat_map-append}
 use Rattle.std.proofs.lemmas.List.Elements.{filter-append}
 use Rattle.std.proofs.lemmas.List.Folds.{list_any-append, list_any_at}
 use Rattle.std.proofs.lemmas.List.FromFn.{length-range_with_len, get_or-range_with_len, map-range_with_len_more}
@@ -56,3 +57,11 @@ pub images_more : {X : Type 0} (f : ℕ → X) (made grown : List X) (i : ℕ) (
     → made ≡ map f (range_with_len 0 i) → x ≡ f i → grown ≡ made ++ x ∷ [] → grown ≡ map f (range_with_len 0 (i + 1))
 images_more f made grown i x so_far is grows =
     grows ∙ ap (λ xs. xs ++ x ∷ []) so_far ∙ ap (λ y. map f (range_with_len 0 i) ++ y ∷ []) is ∙ sym (map-range_with_len_more f 0 i i (omega arith))
+
+-- the lists of the numbers below i, joined: one step on
+pub joined_more : {X : Type 0} (f : ℕ → List X) (made grown : List X) (i : ℕ)
+    → made ≡ flat_map f (range_with_len 0 i) → grown ≡ made ++ f i → grown ≡ flat_map f (range_with_len 0 (i + 1))
+joined_more f made grown i so_far grows =
+    grows ∙ ap (λ xs. xs ++ f i) so_far
+    ∙ sym (ap (flat_map f) (range_more i) ∙ flat_map-append f (range_with_len 0 i) (i ∷ [])
+    ∙ ap (λ xs. flat_map f (range_with_len 0 i) ++ xs) (append-nil (f i)))

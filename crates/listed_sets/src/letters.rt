@@ -1,11 +1,11 @@
 //! All letters over a scope, and the parts of joint letters.
 
 ghost use Rattle.std.specs.Prelude.{◌≡◌, ◌≤◌, ◌<◌, ◌^◌, ◌++◌, ◌∷◌, ℕ, List, map, length, IfOk, OnOk};
-ghost use Rattle.std.specs.List.{AllByRecursion};
+ghost use Rattle.std.specs.List.{AllByRecursion, flat_map, range_with_len};
 ghost use Rattle.net_model.specs.Listings.{scope_of};
 ghost use Rattle.net_model.specs.Parts as parts;
-ghost use Rattle.net_model.specs.Printed.{IsPrintedVariable};
 ghost use Rattle.automata_laws.specs.Letters as letters;
+ghost use Rattle.automata_laws.specs.Letters.{HasFewValues};
 ghost use Rattle.listed_sets.specs.Data.{letter_of, parts_of, parts_with};
 
 use net_model::{Letter, ListedVar};
@@ -20,20 +20,32 @@ pub struct LetterParts {
 
 /// All letters over these variables, the first variable deciding first.
 pub fn letters_over(alloc: Global, vars: &[ListedVar]) -> Result<Vec<Letter>, AllocError>
-    requires { AllByRecursion IsPrintedVariable (scope_of vars.now) }
+    requires { AllByRecursion HasFewValues (scope_of vars.now) }
     ensures { IfOk result (λ all. map letter_of all.items ≡ letters.letters_over (scope_of vars.now)) }
 {
-    let mut all = Vec::new(alloc);
     match vars {
         [] => {
+            let mut all = Vec::new(alloc);
             let values = Vec::new(alloc);
             all.push(Letter { values })?;
+            Ok(all)
         }
-        [_, rest @ ..] => {
+        [var, rest @ ..] => {
             let tails = letters_over(alloc, rest)?;
-            push_with_first(alloc, 0, &tails, &mut all)?;
-            push_with_first(alloc, 1, &tails, &mut all)?;
+            letters_before(alloc, var.values.len(), &tails)
         }
+    }
+}
+
+/// Each letter of `tails` with each value of a variable before it, the values deciding first.
+fn letters_before(alloc: Global, values: usize, tails: &[Letter]) -> Result<Vec<Letter>, AllocError>
+    requires { values < 2 ^ 32 }
+    ensures { IfOk result (λ all. map letter_of all.items
+        ≡ flat_map (λ a. map (λ tail. a ∷ tail) (map letter_of tails.now)) (range_with_len 0 values)) }
+{
+    let mut all = Vec::new(alloc);
+    for value in 0..values {
+        push_with_first(alloc, value as u32, tails, &mut all)?;
     }
     Ok(all)
 }

@@ -1,18 +1,14 @@
 use Rattle.std.proofs.Common.{◌≡◌, ℕ, ◌<◌, ◌≤◌, ◌^◌, Vec, List, [], ◌∷◌, ◌++◌, length, get_or, map, take, refl, subst, sym, ◌∙◌, ap, ap₂, arith}
-use Rattle.std.specs.List.{AllByRecursion}
 use Rattle.std.specs.declared.alloc.Global.{Global}
 use Rattle.std.proofs.lemmas.List.{length-map, get_or-map, map-append, take_all}
 use Rattle.net_model.specs.Words.{Scope}
 use Rattle.net_model.specs.Words as words
-use Rattle.net_model.specs.Listings.{Listing, scope_of}
-use Rattle.net_model.specs.Printed.{IsPrintedVariable}
+use Rattle.net_model.specs.Listings.{Listing}
 use Rattle.net_model.specs.declared.letter.Letter.{Letter}
-use Rattle.net_model.specs.declared.listed.ListedVar.{ListedVar}
 use Rattle.automata_laws.specs.Letters.{letters_over, letter_count}
 use Rattle.automata_laws.specs.Pairs as product
 use Rattle.automata_laws.specs.Pairs.{SameMembers}
 use Rattle.automata_laws.proofs.Places.{length_letters}
-use Rattle.guard_rows.proofs.CubeLetters.{count_is}
 use Rattle.listed_sets.specs.Data.{Parts, letter_of, pair_of, parts_of, parts_with, set_of, pairs_after_parts}
 use Rattle.listed_sets.specs.declared.letters.LetterParts.{LetterParts}
 use Rattle.listed_sets.specs.declared.pairs.Pair.{Pair}
@@ -107,10 +103,7 @@ letters_are joint f s x made joint_letters all n so_far done joints alls =
     ∙ (map_twice (parts_with joint f s x joint_letters) letter_of all
     ∙ ap₂ (λ js ls. map (parts_with joint f s x js) ls) joints alls))
 
--- as many letters as there are over n binary variables
-pub letters_counted_by : (joint f s : Scope) (x : List ListedVar) (letters : List (List Parts)) → AllByRecursion IsPrintedVariable (scope_of x)
-    → letters ≡ letters_by joint f s (scope_of x) → (length letters ≡ letter_count (scope_of x)) × (length letters ≡ 2 ^ length x)
-letters_counted_by joint f s x letters binary are =
-    let count : length letters ≡ letter_count (scope_of x) =
-    ap length are ∙ (length-map (letters_over (scope_of x)) (parts_with joint f s (scope_of x) (letters_over joint)) ∙ length_letters (scope_of x)) in
-    (count, count ∙ (count_is (scope_of x) binary ∙ ap (λ n. 2 ^ n) (length-map x _)))
+-- as many letters as there are over X
+pub letters_counted_by : (joint f s x : Scope) (letters : List (List Parts)) → letters ≡ letters_by joint f s x → length letters ≡ letter_count x
+letters_counted_by joint f s x letters are =
+    ap length are ∙ (length-map (letters_over x) (parts_with joint f s x (letters_over joint)) ∙ length_letters x)

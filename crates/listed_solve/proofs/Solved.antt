@@ -1,15 +1,14 @@
-use Rattle.std.proofs.Common.{◌≡◌, ◌↔◌, ℕ, ◌<◌, ◌^◌, Bool, true, false, IsTrue, MatchBool, Vec, List, length, get_or, refl, subst, sym, ◌∙◌, ap, arith}
+use Rattle.std.proofs.Common.{◌≡◌, ◌↔◌, ℕ, ◌<◌, Bool, true, false, IsTrue, MatchBool, Vec, List, length, get_or, refl, subst, sym, ◌∙◌, ap, arith}
 use Rattle.std.specs.Bool.{beq}
-use Rattle.std.specs.List.{AllByRecursion, list_any}
+use Rattle.std.specs.List.{list_any}
 use Rattle.std.specs.declared.alloc.Global.{Global}
 use Rattle.std.proofs.lemmas.List.{length-map, get_or_default}
 use Rattle.std.proofs.lemmas.List.Folds.{list_any_at}
 use Rattle.std.proofs.lemmas.Bool.{false≢true}
 use Rattle.net_model.specs.Words.{Scope, Letter, Word, IsLetter}
 use Rattle.net_model.specs.Equation.{Topology, IsSafe}
-use Rattle.net_model.specs.Listings.{Listing, ListingWords, scope_of}
+use Rattle.net_model.specs.Listings.{Listing, IsListing, ListingWords, scope_of}
 use Rattle.net_model.specs.declared.listed.ListedVar.{ListedVar}
-use Rattle.net_model.specs.Printed.{IsPrintable, IsPrintedVariable}
 use Rattle.automata_laws.specs.Letters.{letter_count, letter_place}
 use Rattle.automata_laws.specs.Pairs.{Table, are_safe, set_at, target_at, state_after}
 use Rattle.automata_laws.proofs.Members.{one_from_any, contains_from_one}
@@ -34,11 +33,11 @@ some_true marks =
     any_agree (λ mark. beq mark true) (λ mark. mark) (λ mark. elim mark as (λ b. beq b true ≡ b) [ true ↦ refl | false ↦ refl ]) marks
 
 -- what the exploration found
-pub record IsFound (joint x : Scope) (f s : Listing) (width : ℕ) (letters : List (List Parts)) (table : Table) : Type 0 where
+pub record IsFound (joint x : Scope) (f s : Listing) (letters : List (List Parts)) (table : Table) : Type 0 where
   pub are : letters ≡ letters_by joint f.vars s.vars x
   pub over : IsTableOver f s letters table
   pub count : length letters ≡ letter_count x
-  pub complete : IsComplete width table
+  pub complete : IsComplete (letter_count x) table
 
 -- a table over the letters of X has a row of this width for each set
 pub table_is_complete : (f s : Listing) (letters : List (List Parts)) (table : Table) (width : ℕ) → length letters ≡ width
@@ -50,29 +49,29 @@ table_is_complete f s letters table width is over = record {
   known = λ k below i inside. (over.so_far.rows k below i (omega arith)).known;
 }
 
-pub found : (joint : Scope) (f s : Listing) (x now : List ListedVar) (width : ℕ) (letters passed : List (Vec LetterParts Global)) (table : Table)
-    → AllByRecursion IsPrintedVariable (scope_of x) → now ≡ x → width ≡ length x → letters_in letters ≡ letters_by joint f.vars s.vars (scope_of now)
+pub found : (joint : Scope) (f s : Listing) (x now : List ListedVar) (letters passed : List (Vec LetterParts Global)) (table : Table)
+    → now ≡ x → letters_in letters ≡ letters_by joint f.vars s.vars (scope_of now)
     → passed ≡ letters → IsTableOver f s (letters_in passed) table
-    → IsFound joint (scope_of x) f s (2 ^ width) (letters_in letters) table
-found joint f s x now width letters passed table printed same wide are_now letters_same over_passed =
+    → IsFound joint (scope_of x) f s (letters_in letters) table
+found joint f s x now letters passed table same are_now letters_same over_passed =
     let P : List (Vec LetterParts Global) → Type 0 = λ vecs. IsTableOver f s (letters_in vecs) table in
     let over_now = subst P letters_same over_passed in
     let are_x = are_now ∙ ap (λ vars. letters_by joint f.vars s.vars (scope_of vars)) same in
-    let counts = letters_counted_by joint f.vars s.vars x (letters_in letters) printed are_x in
+    let count = letters_counted_by joint f.vars s.vars (scope_of x) (letters_in letters) are_x in
     record {
       are = are_x;
       over = over_now;
-      count = counts.0;
-      complete = table_is_complete f s (letters_in letters) table (2 ^ width) (counts.1 ∙ ap (λ n. 2 ^ n) (sym wide)) over_now;
+      count = count;
+      complete = table_is_complete f s (letters_in letters) table (letter_count (scope_of x)) count over_now;
     }
 
 -- the words of the automaton are the safe ones
 pub words_are_exact : (joint x : Scope) (f s : Listing) (letters : List (List Parts)) (table : Table) (auto : Listing)
-    → IsPrintable f → IsPrintable s → letters ≡ letters_by joint f.vars s.vars x → IsTableOver f s letters table
+    → IsListing f → IsListing s → letters ≡ letters_by joint f.vars s.vars x → IsTableOver f s letters table
     → IsAutomatonOf x f s table auto
     → (topology : Topology) → IsTopologyOver topology joint x f s
     → (word : Word) → ListingWords auto word ↔ IsSafe topology (ListingWords f) (ListingWords s) word
-words_are_exact joint x f s letters table auto printable_f printable_s are over is topology topology_is word =
+words_are_exact joint x f s letters table auto listing_f listing_s are over is topology topology_is word =
     let t = topology_is in
     let same : letters ≡ letters_by topology.joint topology.f topology.s topology.x =
     are
@@ -84,7 +83,7 @@ words_are_exact joint x f s letters table auto printable_f printable_s are over 
     let auto_is = subst P (sym t.x) is in
     let reached = table_is_reached topology f s letters table same over in
     let words = words_are_safe topology.x f s table auto auto_is over.all reached.known word reached.some in
-    let tells = table_tells topology f s table t.mode printable_f printable_s reached word in
+    let tells = table_tells topology f s table t.mode listing_f listing_s reached word in
     (λ run. let safe = words.0 run in (tells safe.0).0 safe.1, λ safe. words.1 (safe.0, (tells safe.0).1 safe))
 
 module _ (x : Scope) (f s : Listing) (letters : List (List Parts)) (table : Table) (auto : Listing)

@@ -1,13 +1,13 @@
 //! The largest solution, as an automaton of the reached sets.
 
-ghost use Rattle.std.specs.Prelude.{◌≡◌, ◌↔◌, ◌^◌, map, length, vec_len, IsTrue, IfOk, MatchBool};
+ghost use Rattle.std.specs.Prelude.{◌≡◌, ◌<◌, ◌^◌, ◌↔◌, map, length, vec_len, IsTrue, IfOk, MatchBool};
 ghost use Rattle.std.specs.List.{AllByRecursion};
+ghost use Rattle.name_table.specs.Variables.{are_different, names_of};
 ghost use Rattle.net_model.specs.Words.{Word};
 ghost use Rattle.net_model.specs.Equation.{Topology, IsSafe};
-ghost use Rattle.net_model.specs.Listings.{ListingWords, listing_of, row_of, scope_of};
+ghost use Rattle.net_model.specs.Listings.{IsListing, ListingWords, listing_of, row_of, scope_of};
 ghost use Rattle.net_model.specs.Printed.{IsPrintable, IsPrintedVariable};
-ghost use Rattle.listed_scopes.specs.Scopes.{IsPrintedScope};
-ghost use Rattle.listed_scopes.specs.Small.{IsSmall};
+ghost use Rattle.automata_laws.specs.Letters.{HasFewValues, letter_count};
 ghost use Rattle.automata_laws.specs.Pairs as product;
 ghost use Rattle.listed_solve.specs.Automaton.{IsAutomatonOf, IsComplete, AreRowsBelow};
 ghost use Rattle.listed_solve.specs.Explored.{table_of, letters_in, letters_by, sets_in};
@@ -28,7 +28,8 @@ pub struct Solution {
     pub has_word: bool,
 }
 
-/// Solves F and S over these joint variables for an X with these variables.
+/// Solves F and S over these joint variables for an X with these variables. It lists all joint letters, and every set of
+/// pairs that some word over X reaches.
 pub fn solve_listed(
     alloc: Global,
     f: &Listed,
@@ -36,11 +37,14 @@ pub fn solve_listed(
     joint: &[ListedVar],
     x: Vec<ListedVar>,
 ) -> Result<Solution, AllocError>
-    requires f_printable { IsPrintable (listing_of f.now) }
-    requires s_printable { IsPrintable (listing_of s.now) }
-    requires joint_printed { AllByRecursion IsPrintedVariable (scope_of joint.now) }
-    requires x_printed { IsPrintedScope (scope_of x.items) }
-    requires small { IsSmall (scope_of joint.now) (listing_of f.now) (listing_of s.now) }
+    requires f_listing { IsListing (listing_of f.now) }
+    requires s_listing { IsListing (listing_of s.now) }
+    requires f_fits { length f.now.accepting.items < 2 ^ 32 }
+    requires s_fits { length s.now.accepting.items < 2 ^ 32 }
+    requires joint_fits { AllByRecursion HasFewValues (scope_of joint.now) }
+    requires x_fits { AllByRecursion HasFewValues (scope_of x.items) }
+    requires x_printed { AllByRecursion IsPrintedVariable (scope_of x.items) }
+    requires x_different { IsTrue (are_different (names_of (scope_of x.items))) }
     ensures letters { IfOk result (λ solution. scope_of solution.auto.vars.items ≡ scope_of x.items) }
     ensures printable { IfOk result (λ solution. IsPrintable (listing_of solution.auto)) }
 
@@ -68,8 +72,8 @@ fn letters_of(
     joint: &[ListedVar],
     x: &[ListedVar],
 ) -> Result<Vec<Vec<LetterParts>>, AllocError>
-    requires joint_printed { AllByRecursion IsPrintedVariable (scope_of joint.now) }
-    requires x_printed { AllByRecursion IsPrintedVariable (scope_of x.now) }
+    requires joint_fits { AllByRecursion HasFewValues (scope_of joint.now) }
+    requires x_fits { AllByRecursion HasFewValues (scope_of x.now) }
     ensures { IfOk result (λ letters. letters_in letters.items
         ≡ letters_by (scope_of joint.now) (scope_of f.now.vars.items) (scope_of s.now.vars.items) (scope_of x.now)) }
 {
@@ -89,8 +93,8 @@ fn listed_of(
     x: Vec<ListedVar>,
     table: &Table,
 ) -> Result<Listed, AllocError>
-    requires x_printed { AllByRecursion IsPrintedVariable (scope_of x.items) }
-    requires complete { IsComplete (2 ^ vec_len x) (table_of table.now) }
+    requires x_fits { AllByRecursion HasFewValues (scope_of x.items) }
+    requires complete { IsComplete (letter_count (scope_of x.items)) (table_of table.now) }
     ensures { IfOk result (λ auto. IsAutomatonOf (scope_of x.items) (listing_of f.now) (listing_of s.now) (table_of table.now) (listing_of auto)) }
 {
     let accepting = safe_marks(alloc, f, s, &table.sets)?;
@@ -123,13 +127,13 @@ fn safe_marks(
 
 /// The rows of every state, one state after the other.
 fn rows_of(alloc: Global, x: &[ListedVar], table: &Table) -> Result<Vec<ListedRow>, AllocError>
-    requires x_printed { AllByRecursion IsPrintedVariable (scope_of x.now) }
-    requires complete { IsComplete (2 ^ length x.now) (table_of table.now) }
+    requires x_fits { AllByRecursion HasFewValues (scope_of x.now) }
+    requires complete { IsComplete (letter_count (scope_of x.now)) (table_of table.now) }
     ensures { IfOk result (λ rows. AreRowsBelow (scope_of x.now) (table_of table.now) (vec_len table.now.moves) (map row_of rows.items)) }
 {
     let mut rows = Vec::new(alloc);
     for (state, targets) in table.moves.iter().enumerate() {
-        push_rows(alloc, x.len(), state as u32, targets, &mut rows)?;
+        push_rows(alloc, x, state as u32, targets, &mut rows)?;
     }
     Ok(rows)
 }

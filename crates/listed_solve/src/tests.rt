@@ -1,33 +1,33 @@
-ghost use Rattle.std.specs.Prelude.{◌≡◌, [], ◌∷◌, map, codes, IfOk};
-ghost use Rattle.net_model.specs.Listings.{variable_of, row_of, listing_of, scope_of};
-ghost use Rattle.net_model.specs.Printed.{IsPrintable};
+ghost use Rattle.std.specs.Prelude.{◌≡◌, ◌<◌, ◌^◌, [], ◌∷◌, length, map, codes, IfOk, IsTrue};
+ghost use Rattle.net_model.specs.Listings.{IsListing, variable_of, row_of, listing_of, scope_of};
 ghost use Rattle.automata_laws.specs.Examples.{binary};
 
 use super::*;
-use listed_scopes::{are_good_names, is_small, joint_vars, named_vars};
 use net_model::{Listed, ListedRow, ListedVar, ValueSet};
 use std::alloc::{AllocError, Global};
 use std::process::Abort;
 use std::test::Fail;
 
-fn var(alloc: Global, name: &str) -> Result<ListedVar, AllocError>
-    ensures { IfOk result (λ var. variable_of var ≡ binary name.now) }
+fn var(alloc: Global, name: &str, values: &[&str]) -> Result<ListedVar, AllocError>
+    ensures { IfOk result (λ var. variable_of var ≡ record { name = name.now; values = map (λ value. value.now) values.now }) }
 {
-    let mut values = Vec::new(alloc);
-    values.push(b"0".to_vec(alloc)?)?;
-    values.push(b"1".to_vec(alloc)?)?;
+    let mut names = Vec::new(alloc);
+    for value in values {
+        names.push(value.as_bytes().to_vec(alloc)?)?;
+    }
     Ok(ListedVar {
         name: name.as_bytes().to_vec(alloc)?,
-        values,
+        values: names,
     })
 }
 
+// Variables with the values 0 and 1.
 fn vars(alloc: Global, names: &[&str]) -> Result<Vec<ListedVar>, AllocError>
     ensures { IfOk result (λ vars. scope_of vars.items ≡ map (λ name. binary name.now) names.now) }
 {
     let mut all = Vec::new(alloc);
     for name in names {
-        all.push(var(alloc, name)?)?;
+        all.push(var(alloc, name, &["0", "1"])?)?;
     }
     Ok(all)
 }
@@ -48,25 +48,24 @@ fn row(alloc: Global, values: &[u32], present: u32, next: u32) -> Result<ListedR
     })
 }
 
-// The automaton of these rows, from state 0.
+// The automaton of these rows.
 fn listed(
     alloc: Global,
-    names: &[&str],
+    vars: Vec<ListedVar>,
+    initial: &[u32],
     marks: &[bool],
     rows: Vec<ListedRow>,
 ) -> Result<Listed, AllocError>
     ensures { IfOk result (λ auto. listing_of auto ≡ record {
-      vars = map (λ name. binary name.now) names.now;
-      initial = 0 ∷ [];
+      vars = scope_of vars.items;
+      initial = initial.now;
       accepting = marks.now;
       rows = map row_of rows.items;
     }) }
 {
-    let mut initial = Vec::new(alloc);
-    initial.push(0)?;
     Ok(Listed {
-        vars: vars(alloc, names)?,
-        initial,
+        vars,
+        initial: initial.to_vec(alloc)?,
         accepting: marks.to_vec(alloc)?,
         rows,
     })
@@ -74,73 +73,80 @@ fn listed(
 
 // u repeats i, and o repeats v.
 fn wire(alloc: Global) -> Result<Listed, AllocError>
-    ensures { IfOk result (λ auto. IsPrintable (listing_of auto)) }
+    ensures listing { IfOk result (λ auto. IsListing (listing_of auto)) }
+    ensures fits { IfOk result (λ auto. length auto.accepting.items < 2 ^ 32) }
 {
     let mut rows = Vec::new(alloc);
     rows.push(row(alloc, &[0, 0, 0, 0], 0, 0)?)?;
     rows.push(row(alloc, &[0, 1, 0, 1], 0, 0)?)?;
     rows.push(row(alloc, &[1, 0, 1, 0], 0, 0)?)?;
     rows.push(row(alloc, &[1, 1, 1, 1], 0, 0)?)?;
-    listed(alloc, &["i", "v", "u", "o"], &[true], rows)
+    let vars = vars(alloc, &["i", "v", "u", "o"])?;
+    listed(alloc, vars, &[0], &[true], rows)
 }
 
 // o repeats i.
 fn copy(alloc: Global, mark: bool) -> Result<Listed, AllocError>
-    ensures { IfOk result (λ auto. IsPrintable (listing_of auto)) }
+    ensures listing { IfOk result (λ auto. IsListing (listing_of auto)) }
+    ensures fits { IfOk result (λ auto. length auto.accepting.items < 2 ^ 32) }
 {
     let mut rows = Vec::new(alloc);
     rows.push(row(alloc, &[0, 0], 0, 0)?)?;
     rows.push(row(alloc, &[1, 1], 0, 0)?)?;
-    listed(alloc, &["i", "o"], &[mark], rows)
+    let vars = vars(alloc, &["i", "o"])?;
+    listed(alloc, vars, &[0], &[mark], rows)
 }
 
 // No letter leads on.
 fn blocked(alloc: Global) -> Result<Listed, AllocError>
-    ensures { IfOk result (λ auto. IsPrintable (listing_of auto)) }
+    ensures listing { IfOk result (λ auto. IsListing (listing_of auto)) }
+    ensures fits { IfOk result (λ auto. length auto.accepting.items < 2 ^ 32) }
 {
-    listed(alloc, &["i", "v", "u", "o"], &[true], Vec::new(alloc))
+    let vars = vars(alloc, &["i", "v", "u", "o"])?;
+    listed(alloc, vars, &[0], &[true], Vec::new(alloc))
+}
+
+// It has a step, and no state to start in.
+fn unstarted(alloc: Global) -> Result<Listed, AllocError>
+    ensures listing { IfOk result (λ auto. IsListing (listing_of auto)) }
+    ensures fits { IfOk result (λ auto. length auto.accepting.items < 2 ^ 32) }
+{
+    let mut rows = Vec::new(alloc);
+    rows.push(row(alloc, &[0, 1, 0, 1], 0, 0)?)?;
+    let vars = vars(alloc, &["i", "v", "u", "o"])?;
+    listed(alloc, vars, &[], &[true], rows)
 }
 
 // o repeats i, and each letter leads from state 0 to itself and to state 1, which doesn't accept and has no rows.
 fn copy_with_two_runs(alloc: Global) -> Result<Listed, AllocError>
-    ensures { IfOk result (λ auto. IsPrintable (listing_of auto)) }
+    ensures listing { IfOk result (λ auto. IsListing (listing_of auto)) }
+    ensures fits { IfOk result (λ auto. length auto.accepting.items < 2 ^ 32) }
 {
     let mut rows = Vec::new(alloc);
     rows.push(row(alloc, &[0, 0], 0, 0)?)?;
     rows.push(row(alloc, &[0, 0], 0, 1)?)?;
     rows.push(row(alloc, &[1, 1], 0, 0)?)?;
     rows.push(row(alloc, &[1, 1], 0, 1)?)?;
-    listed(alloc, &["i", "o"], &[true, false], rows)
+    let vars = vars(alloc, &["i", "o"])?;
+    listed(alloc, vars, &[0], &[true, false], rows)
 }
 
-// The solution for an X with the input u and the output v.
-fn solution_of(
-    rt: &impl Abort,
-    alloc: Global,
-    f: &Listed,
-    s: &Listed,
-) -> Result<Solution, AllocError>
-    requires f_printable { IsPrintable (listing_of f.now) }
-    requires s_printable { IsPrintable (listing_of s.now) }
+// The solution for an X with the input u and the output v, where the joint variables are those of a wire.
+fn solution_of(alloc: Global, f: &Listed, s: &Listed) -> Result<Solution, AllocError>
+    requires f_listing { IsListing (listing_of f.now) }
+    requires s_listing { IsListing (listing_of s.now) }
+    requires f_fits { length f.now.accepting.items < 2 ^ 32 }
+    requires s_fits { length s.now.accepting.items < 2 ^ 32 }
 {
-    let joint = joint_vars(alloc, &f.vars, &s.vars)?;
-    assert!(rt; is_small(&joint, f, s));
-    let names = ["u", "v"];
-    assert!(rt; are_good_names(&joint, &names));
-    let x = named_vars(alloc, &joint, &names)?;
+    let joint = vars(alloc, &["i", "v", "u", "o"])?;
+    let x = vars(alloc, &["u", "v"])?;
     solve_listed(alloc, f, s, &joint, x)
 }
 
 #[test]
 fn a_wire_and_a_copy(rt: HostRuntime) -> Result<(), Fail> {
     let alloc = rt.alloc();
-    let f = wire(alloc)?;
-    let s = copy(alloc, true)?;
-    let joint = joint_vars(alloc, &f.vars, &s.vars)?;
-    assert_eq!(rt; joint.len(), 4);
-    assert!(rt; !are_good_names(&joint, &["u", "u"]));
-    assert!(rt; !are_good_names(&joint, &["u", "q"]));
-    let solution = solution_of(&rt, alloc, &f, &s)?;
+    let solution = solution_of(alloc, &wire(alloc)?, &copy(alloc, true)?)?;
     assert!(rt; solution.has_word);
     assert_eq!(rt;
         solution.auto.accepting.as_slice(),
@@ -154,10 +160,21 @@ fn a_wire_and_a_copy(rt: HostRuntime) -> Result<(), Fail> {
 #[test]
 fn an_f_that_blocks(rt: HostRuntime) -> Result<(), Fail> {
     let alloc = rt.alloc();
-    let solution = solution_of(&rt, alloc, &blocked(alloc)?, &copy(alloc, true)?)?;
+    let solution = solution_of(alloc, &blocked(alloc)?, &copy(alloc, true)?)?;
     assert!(rt; solution.has_word);
     assert_eq!(rt; solution.auto.accepting.as_slice(), [true, true].as_slice());
     assert_eq!(rt; solution.auto.rows.len(), 2);
+    Ok(())
+}
+
+// F starts nowhere, so that it has no word, and every word is safe, also where S has none.
+#[test]
+fn an_f_that_never_starts(rt: HostRuntime) -> Result<(), Fail> {
+    let alloc = rt.alloc();
+    let solution = solution_of(alloc, &unstarted(alloc)?, &copy(alloc, false)?)?;
+    assert!(rt; solution.has_word);
+    assert_eq!(rt; solution.auto.accepting.as_slice(), [true].as_slice());
+    assert_eq!(rt; solution.auto.rows.len(), 1);
     Ok(())
 }
 
@@ -165,7 +182,7 @@ fn an_f_that_blocks(rt: HostRuntime) -> Result<(), Fail> {
 #[test]
 fn an_s_with_two_runs(rt: HostRuntime) -> Result<(), Fail> {
     let alloc = rt.alloc();
-    let solution = solution_of(&rt, alloc, &wire(alloc)?, &copy_with_two_runs(alloc)?)?;
+    let solution = solution_of(alloc, &wire(alloc)?, &copy_with_two_runs(alloc)?)?;
     assert!(rt; solution.has_word);
     assert_eq!(rt;
         solution.auto.accepting.as_slice(),
@@ -178,11 +195,97 @@ fn an_s_with_two_runs(rt: HostRuntime) -> Result<(), Fail> {
 #[test]
 fn an_s_without_words(rt: HostRuntime) -> Result<(), Fail> {
     let alloc = rt.alloc();
-    let solution = solution_of(&rt, alloc, &wire(alloc)?, &copy(alloc, false)?)?;
+    let solution = solution_of(alloc, &wire(alloc)?, &copy(alloc, false)?)?;
     assert!(rt; !solution.has_word);
     assert_eq!(rt;
         solution.auto.accepting.as_slice(),
         [false, false].as_slice()
     );
+    Ok(())
+}
+
+// The variable c, red, green or black.
+fn color(alloc: Global) -> Result<ListedVar, AllocError>
+    ensures { IfOk result (λ var. variable_of var ≡ record { name = codes "c"; values = codes "r" ∷ codes "g" ∷ codes "k" ∷ [] }) }
+{
+    var(alloc, "c", &["r", "g", "k"])
+}
+
+fn color_and_output(alloc: Global) -> Result<Vec<ListedVar>, AllocError>
+    ensures { IfOk result (λ vars. scope_of vars.items
+        ≡ record { name = codes "c"; values = codes "r" ∷ codes "g" ∷ codes "k" ∷ [] } ∷ binary (codes "o") ∷ []) }
+{
+    let mut vars = Vec::new(alloc);
+    vars.push(color(alloc)?)?;
+    vars.push(var(alloc, "o", &["0", "1"])?)?;
+    Ok(vars)
+}
+
+// A light that sets o by the color c: in state 0 for black, in state 1 for green. It starts in either and stays there.
+fn light(alloc: Global) -> Result<Listed, AllocError>
+    ensures listing { IfOk result (λ auto. IsListing (listing_of auto)) }
+    ensures fits { IfOk result (λ auto. length auto.accepting.items < 2 ^ 32) }
+{
+    let mut rows = Vec::new(alloc);
+    rows.push(row(alloc, &[0, 0], 0, 0)?)?;
+    rows.push(row(alloc, &[1, 0], 0, 0)?)?;
+    rows.push(row(alloc, &[2, 1], 0, 0)?)?;
+    rows.push(row(alloc, &[0, 0], 1, 1)?)?;
+    rows.push(row(alloc, &[1, 1], 1, 1)?)?;
+    rows.push(row(alloc, &[2, 0], 1, 1)?)?;
+    let vars = color_and_output(alloc)?;
+    listed(alloc, vars, &[0, 1], &[true, true], rows)
+}
+
+// o stays 0.
+fn dark(alloc: Global) -> Result<Listed, AllocError>
+    ensures listing { IfOk result (λ auto. IsListing (listing_of auto)) }
+    ensures fits { IfOk result (λ auto. length auto.accepting.items < 2 ^ 32) }
+{
+    let mut rows = Vec::new(alloc);
+    rows.push(row(alloc, &[0], 0, 0)?)?;
+    let vars = vars(alloc, &["o"])?;
+    listed(alloc, vars, &[0], &[true], rows)
+}
+
+fn leads(row: &ListedRow, present: u32, next: u32, values: &[u32]) -> bool {
+    match row.entries.as_slice() {
+        [entry] => {
+            row.present == present && row.next == next && entry.values.as_slice() == values
+        }
+        _ => false,
+    }
+}
+
+// X sees the color alone. Green sets o where F began in state 1, and black where it began in state 0, so that just the
+// words of red letters are safe. The pairs of state 0 are (0, {0}) and (1, {0}): green takes S's state from the second, black
+// from the first, and both from both.
+#[test]
+fn three_colors_and_two_initial_states(rt: HostRuntime) -> Result<(), Fail> {
+    let alloc = rt.alloc();
+    let joint = color_and_output(alloc)?;
+    let mut x = Vec::new(alloc);
+    x.push(color(alloc)?)?;
+    let solution = solve_listed(alloc, &light(alloc)?, &dark(alloc)?, &joint, x)?;
+    assert!(rt; solution.has_word);
+    assert_eq!(rt;
+        solution.auto.accepting.as_slice(),
+        [true, false, false, false].as_slice()
+    );
+    let wanted: [(u32, u32, &[u32]); 9] = [
+        (0, 0, &[0]),
+        (0, 1, &[1]),
+        (0, 2, &[2]),
+        (1, 1, &[0, 1]),
+        (1, 3, &[2]),
+        (2, 2, &[0, 2]),
+        (2, 3, &[1]),
+        (3, 3, &[0, 1]),
+        (3, 3, &[2]),
+    ];
+    assert_eq!(rt; solution.auto.rows.len(), 9);
+    for (row, (present, next, values)) in solution.auto.rows.iter().zip(&wanted) {
+        assert!(rt; leads(row, *present, *next, values));
+    }
     Ok(())
 }

@@ -54,6 +54,11 @@ pub record HasAcceptance (net : Net) (signal : ℕ) : Type 0 where
   pub only : table.outs ≡ signal ∷ []
   pub states : All (Contains (latch_outputs net)) table.ins
 
+-- the network is an automaton as the format wants it: its only output is `Acc`, which has two values and is computed from
+-- the state alone
+abbrev pub IsAuto : Net → Type 0
+IsAuto net = (signal : ℕ) × IsAutomaton net signal × HasAcceptance net signal
+
 pub record MeetsConditions (net : Net) : Type 0 where
   -- no signal is driven twice, and each signal that is used is driven
   pub once : (signal : ℕ) → times_driven net signal ≤ 1

@@ -1,5 +1,5 @@
-use Rattle.std.specs.Prelude.{◌==◌, ℕ, Bool, true, false, ◌&&◌, IsTrue, List, [], ◌∷◌, map, Contains, slice_index_or}
-use Rattle.std.specs.List.{list_any}
+use Rattle.std.specs.Prelude.{◌<◌, ◌==◌, ℕ, Bool, true, false, ◌&&◌, IsTrue, List, [], ◌∷◌, length, map, Contains, slice_index_or}
+use Rattle.std.specs.List.{AllByRecursion, list_any}
 use Rattle.net_model.specs.Words.{Variable, Scope, Letter, Language}
 use Rattle.net_model.specs.Automata.{LanguageOf}
 use Rattle.net_model.specs.declared.listed.ListedVar.{ListedVar}
@@ -19,6 +19,14 @@ pub record Listing : Type 0 where
   pub initial : List ℕ
   pub accepting : List Bool
   pub rows : List Row
+
+-- its states are the places of `accepting`, of which there is one at least; it starts in some of them, and its rows lead
+-- from some to some
+pub record IsListing (auto : Listing) : Type 0 where
+  pub some : 0 < length auto.accepting
+  pub initial : AllByRecursion (λ q. q < length auto.accepting) auto.initial
+  pub present : AllByRecursion (λ (row : Row). row.present < length auto.accepting) auto.rows
+  pub next : AllByRecursion (λ (row : Row). row.next < length auto.accepting) auto.rows
 
 -- each entry has the letter's value
 abbrev pub allows : List (List ℕ) → Letter → Bool

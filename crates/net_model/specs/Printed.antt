@@ -1,8 +1,9 @@
-use Rattle.std.specs.Prelude.{◌≡◌, ◌≢◌, ◌<◌, ◌≤◌, ◌+◌, ◌^◌, ◌==◌, ◌&&◌, ◌||◌, nat_le, IsTrue, ℕ, Bool, List, [], ◌∷◌, ◌++◌, length, map, if◌then◌else◌, slice_index, slice_index_or, codes, decimal}
-use Rattle.std.specs.List.{AllByRecursion, list_all, flat_map, join_with_byte, range_with_len}
-use Rattle.net_model.specs.Words.{Variable, Scope, Language}
-use Rattle.net_model.specs.Listings.{Row, Listing, ListingWords}
-use Rattle.net_model.specs.Topologies.{are_different}
+use Rattle.std.specs.Prelude.{◌≡◌, ◌≢◌, ◌<◌, ◌≤◌, ◌+◌, ◌^◌, ◌==◌, IsTrue, ℕ, Bool, List, [], ◌∷◌, ◌++◌, length, map, if◌then◌else◌, slice_index_or, codes, decimal}
+use Rattle.std.specs.List.{AllByRecursion, flat_map, join_with_byte, range_with_len}
+use Rattle.name_table.specs.Variables.{names_of, are_different}
+use Rattle.net_model.specs.Words.{Variable, Scope}
+use Rattle.net_model.specs.Listings.{Row, Listing}
+use Rattle.net_model.specs.Written.{IsTextVariable}
 
 -- The text of a printed automaton, as lines of fields. A line's fields have single blanks between them, and each line
 -- ends with a line feed.
@@ -11,17 +12,25 @@ use Rattle.net_model.specs.Topologies.{are_different}
 abbrev pub state_name : ℕ → List ℕ
 state_name k = codes "s" ++ decimal k
 
--- an entry: `-` where it allows every value of its variable, else the one value that it allows
+-- the name of a value
+abbrev pub value_name : Variable → ℕ → List ℕ
+value_name v value = slice_index_or v.values value []
+
+-- the one value, or the values as a list in parentheses
+abbrev pub values_field : Variable → List ℕ → List ℕ
+values_field v [] = []
+values_field v (value ∷ []) = value_name v value
+values_field v (value ∷ more ∷ values) =
+    codes "(" ++ (join_with_byte 44 (map (value_name v) (value ∷ more ∷ values)) ++ codes ")")
+
+-- an entry: `-` where it allows every value of its variable, else the values that it allows
 abbrev pub entry_field : Variable → List ℕ → List ℕ
-entry_field v entry = if length entry == length v.values then codes "-" else slice_index_or v.values (slice_index entry 0) []
+entry_field v entry = if length entry == length v.values then codes "-" else values_field v entry
 
 abbrev pub entry_fields : Scope → List (List ℕ) → List (List ℕ)
 entry_fields (v ∷ vars) (entry ∷ entries) = entry_field v entry ∷ entry_fields vars entries
 entry_fields [] entries = []
 entry_fields (v ∷ vars) [] = []
-
-abbrev pub names_of : Scope → List (List ℕ)
-names_of vars = map (λ v. v.name) vars
 
 abbrev pub domain_line : Variable → List (List ℕ)
 domain_line v = codes ".mv" ∷ v.name ∷ decimal (length v.values) ∷ v.values
@@ -62,22 +71,13 @@ line_bytes fields = join_with_byte 32 fields ++ 10 ∷ []
 abbrev pub printed_text : List ℕ → Listing → List ℕ
 printed_text name auto = flat_map line_bytes (printed_lines name auto)
 
--- an ASCII letter, a digit or `_`
-abbrev pub is_name_byte : ℕ → Bool
-is_name_byte b =
-    (nat_le 48 b && nat_le b 57) || ((nat_le 65 b && nat_le b 90) || ((b == 95) || (nat_le 97 b && nat_le b 122)))
-
--- a name of a printed text: such bytes alone, at least one
-abbrev pub IsPrintedName : List ℕ → Type 0
-IsPrintedName name = (0 < length name) × IsTrue (list_all is_name_byte name)
-
--- a variable of a printed text: a name that the format doesn't use itself, and the values `0` and `1`
+-- a variable of a printed text: a name that the format doesn't use itself, and values
 pub record IsPrintedVariable (v : Variable) : Type 0 where
-  pub name : IsPrintedName v.name
+  pub text : IsTextVariable v
+  pub few : length v.values < 2 ^ 64
   pub not_present : v.name ≢ codes "CS"
   pub not_next : v.name ≢ codes "NS"
   pub not_accepting : v.name ≢ codes "Acc"
-  pub binary : v.values ≡ codes "0" ∷ codes "1" ∷ []
 
 -- numbers from low on, below high, each greater than the one before
 abbrev pub RisesBelow : ℕ → ℕ → List ℕ → Type 0
@@ -103,18 +103,9 @@ pub record IsPrintedRow (vars : Scope) (n : ℕ) (row : Row) : Type 0 where
 
 -- an automaton that has a printed text
 pub record IsPrintable (auto : Listing) : Type 0 where
-  pub some : 0 < length auto.vars
   pub vars : AllByRecursion IsPrintedVariable auto.vars
   pub different : IsTrue (are_different (names_of auto.vars))
   pub states : 0 < length auto.accepting
   pub few : length auto.accepting < 2 ^ 64
   pub initial : auto.initial ≡ 0 ∷ []
   pub rows : AllByRecursion (IsPrintedRow auto.vars (length auto.accepting)) auto.rows
-
--- the bytes are the printed text of this automaton, under some model name
-abbrev pub IsTextOf : Listing → List ℕ → Type 0
-IsTextOf auto bytes = (name : List ℕ) × IsPrintedName name × IsPrintable auto × (bytes ≡ printed_text name auto)
-
--- what a file means: the bytes are the printed text of an automaton with these letters that has the word
-abbrev pub Means : List ℕ → Scope → Language
-Means bytes scope word = (auto : Listing) × IsTextOf auto bytes × (auto.vars ≡ scope) × ListingWords auto word

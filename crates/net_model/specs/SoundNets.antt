@@ -1,9 +1,10 @@
-use Rattle.std.specs.Prelude.{◌≡◌, ◌<◌, ℕ, List, [], ◌∷◌, length, map, MatchOption, slice_index, All}
-use Rattle.std.specs.List.{AllZip}
+use Rattle.std.specs.Prelude.{◌≡◌, ◌<◌, ◌≤◌, ℕ, List, [], ◌∷◌, length, map, MatchOption, slice_index, nat_eq, count_by, All}
+use Rattle.std.specs.List.{AllByRecursion, AllZip}
 use Rattle.name_table.specs.Variables.{IsTable}
 use Rattle.net_model.specs.Nets.{Entry, Any, Value, OneOf, NotOneOf, Equal, Row, Table, Net}
 use Rattle.net_model.specs.Spellings.{domain_at}
 use Rattle.net_model.specs.Conditions.{columns_of, MeetsConditions}
+use Rattle.net_model.specs.Written.{IsTextVariable}
 
 -- What holds of every network that is read.
 
@@ -50,9 +51,12 @@ pub record IsTableOf (net : Net) (table : Table) : Type 0 where
   pub rows : All (IsRowOf (sizes_of net table.ins) (sizes_of net table.outs)) table.rows
   pub otherwise : MatchOption table.otherwise (Unit {0}) (AllZip (IsOutputEntry (sizes_of net table.ins)) (sizes_of net table.outs))
 
--- all numbers are in range, each row and default has an entry for each column, and the conditions on signals hold
+-- all numbers are in range, the names are words of a text, an output counts once, each row and default has an entry for
+-- each column, and the conditions on signals hold
 pub record IsSound (net : Net) : Type 0 where
   pub known : HasKnownSignals net
+  pub names : AllByRecursion IsTextVariable net.names
+  pub outputs_once : (signal : ℕ) → count_by (nat_eq signal) net.outputs ≤ 1
   pub tables : All (IsTableOf net) net.tables
   pub resets : All (IsTableOf net) net.resets
   pub conditions : MeetsConditions net

@@ -1,10 +1,12 @@
-use Rattle.std.specs.Prelude.{ℕ, Bool, ◌&&◌, not, List, [], ◌∷◌, ◌++◌, length, map, filter, if◌then◌else◌}
+use Rattle.std.specs.Prelude.{ℕ, Bool, not, List, [], ◌∷◌, ◌++◌, length, map, filter, if◌then◌else◌, codes}
 use Rattle.std.specs.Str.{bytes_eq}
-use Rattle.std.specs.List.{list_any, list_all}
+use Rattle.std.specs.List.{list_any}
+use Rattle.name_table.specs.Variables.{is_in}
 use Rattle.net_model.specs.Words.{Variable, Scope}
-pub use Rattle.name_table.specs.Variables.{are_different}
+use Rattle.net_model.specs.Parts.{actions_of}
 use Rattle.net_model.specs.Equation.{Topology}
-use Rattle.net_model.specs.declared.class.Mode.TheVariants.{Sync}
+use Rattle.net_model.specs.declared.class.Mode.{Mode}
+use Rattle.net_model.specs.declared.class.Mode.TheVariants.{Sync, Parallel}
 
 -- some variable of the scope has this name
 abbrev pub is_named : Scope → List ℕ → Bool
@@ -30,6 +32,26 @@ sync_topology f s ins outs = record {
   inputs = length ins;
 }
 
--- the names of X's variables are names of variables of F or S, and no name stands twice
-abbrev pub are_good_names : Scope → List (List ℕ) → List (List ℕ) → Bool
-are_good_names joint ins outs = list_all (is_named joint) (ins ++ outs) && are_different (ins ++ outs)
+-- F's actions in their order, then those of S that F doesn't have
+abbrev pub joint_actions : List (List ℕ) → List (List ℕ) → List (List ℕ)
+joint_actions f s = f ++ filter (λ action. not (is_in f action)) s
+
+-- the letters of parallel mode: one variable, whose values are actions
+abbrev pub acting : List (List ℕ) → Scope
+acting actions = record { name = codes "act"; values = actions } ∷ []
+
+-- the parallel equation of F and S for an X with these input and output actions
+abbrev pub parallel_topology : Scope → Scope → List (List ℕ) → List (List ℕ) → Topology
+parallel_topology f s ins outs = record {
+  mode = Parallel;
+  joint = acting (joint_actions (actions_of f) (actions_of s));
+  f = f;
+  s = s;
+  x = acting (ins ++ outs);
+  inputs = length ins;
+}
+
+-- the equation of F and S, which have these letters
+abbrev pub topology_by : Mode → Scope → Scope → List (List ℕ) → List (List ℕ) → Topology
+topology_by Sync f s ins outs = sync_topology f s ins outs
+topology_by Parallel f s ins outs = parallel_topology f s ins outs

@@ -38,6 +38,13 @@ impl NameList {
         Ok(())
     }
 
+    // The names as they are kept.
+    pub(crate) fn names(&self) -> &[Vec<u8>]
+        ensures { map (λ n. n.items) result.now ≡ self.now }
+    {
+        self.names.as_slice()
+    }
+
     /// How many names there are.
     pub fn len(&self) -> u64
         ensures { result ≡ length self.now }

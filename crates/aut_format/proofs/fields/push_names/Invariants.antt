@@ -1,6 +1,6 @@
 use Rattle.std.proofs.Common.{◌≡◌, ◌++◌, drop}
 use Rattle.net_model.specs.Listings.{scope_of}
-use Rattle.net_model.specs.Printed.{names_of}
+use Rattle.name_table.specs.Variables.{names_of}
 use Rattle.aut_format.specs.Fields.{blank_before}
 use Rattle.aut_format.proofs.fields.push_names.Given as goal
 

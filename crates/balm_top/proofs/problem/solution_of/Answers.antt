@@ -1,10 +1,9 @@
 use Rattle.std.proofs.Common.{◌≡◌, ◌<◌, ◌≤◌, ◌++◌, ℕ, List, Some, length, inl, inr, refl, sym, ◌∙◌, subst, arith, rules, length-append}
 use Rattle.io_core.specs.Files.{Files}
-use Rattle.net_model.specs.Listings.{listing_of}
+use Rattle.net_model.specs.Nets.{net_of}
 use Rattle.balm_top.specs.Jobs.{IsJob, job_of}
 use Rattle.balm_top.specs.Refusals.{AreRead}
 use Rattle.balm_top.specs.Stops.{StopsAtFile}
-use Rattle.balm_top.proofs.NameLists.{name_list_has_one}
 use Rattle.balm_top.proofs.Stopped.{stops_at_file}
 use Rattle.balm_top.proofs.Reading.{solves_rightly, stops_rightly}
 use Rattle.balm_top.proofs.problem.solution_of.Goals as goal
@@ -26,21 +25,14 @@ returns-in-Err-read_file-2-clause-stopped g c =
     let after = shelf.faults c.read_file-2.new.shelf in
     let stop = c.in-Err-read_file-2.stop in
     let stopped = subst (λ held. StopsAtFile job.s held between after stop) c.read_file.ensures.kept c.in-Err-read_file-2.ensures.stopped in
-    stops_at_file c.args.words.now (shelf.holds c.args.shelf.now) (shelf.faults c.args.shelf.now) between after c.read_file.ensures.later job job_is job.s (inr refl) (λ files held. inr (listing_of c.in-Ok.auto, c.in-Ok.ensures.ok files held, refl)) stop stopped
-
-pub solve-requires-clause-names : goal.solve-requires-clause-names
-solve-requires-clause-names g c =
-    let job = job_of c.in-Ok-Some.request in
-    let job_is : IsJob c.args.words.now job = search rules in
-    let one : 0 < length job.ins = name_list_has_one job_is.0 job.ins job_is.3 in
-    omega (arith, one, length-append job.ins job.outs)
+    stops_at_file c.args.words.now (shelf.holds c.args.shelf.now) (shelf.faults c.args.shelf.now) between after c.read_file.ensures.later job job_is job.s (inr refl) (λ files held. inr (net_of c.in-Ok.net, c.in-Ok.ensures.ok files held, refl)) stop stopped
 
 pub returns-clause-solved : goal.returns-clause-solved
 returns-clause-solved g c =
     let shelf = g.H.Shelf in
     let job = job_of c.in-Ok-Some.request in
-    let f = listing_of c.in-Ok.auto in
-    let s = listing_of c.in-Ok-read_file.auto in
+    let f = net_of c.in-Ok.net in
+    let s = net_of c.in-Ok-read_file.net in
     let job_is : IsJob c.args.words.now job = search rules in
     let read : (files : Files) → shelf.holds c.args.shelf.now ≡ Some files → AreRead c.args.words.now files job f s =
     λ files held. record { job_is = job_is; f_read = c.in-Ok.ensures.ok files held; s_read = c.in-Ok-read_file.ensures.ok files (c.read_file.ensures.kept ∙ held) } in
@@ -50,8 +42,8 @@ pub returns-clause-stopped : goal.returns-clause-stopped
 returns-clause-stopped g c =
     let shelf = g.H.Shelf in
     let job = job_of c.in-Ok-Some.request in
-    let f = listing_of c.in-Ok.auto in
-    let s = listing_of c.in-Ok-read_file.auto in
+    let f = net_of c.in-Ok.net in
+    let s = net_of c.in-Ok-read_file.net in
     let job_is : IsJob c.args.words.now job = search rules in
     let read : (files : Files) → shelf.holds c.args.shelf.now ≡ Some files → AreRead c.args.words.now files job f s =
     λ files held. record { job_is = job_is; f_read = c.in-Ok.ensures.ok files held; s_read = c.in-Ok-read_file.ensures.ok files (c.read_file.ensures.kept ∙ held) } in

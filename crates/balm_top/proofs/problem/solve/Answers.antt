@@ -1,21 +1,45 @@
-use Rattle.std.proofs.Common.{◌≡◌, ◌&&◌, true, map, rules}
-use Rattle.std.specs.List.{list_all}
-use Rattle.net_model.specs.Listings.{listing_of, scope_of}
-use Rattle.net_model.specs.Topologies.{is_named, are_different}
-use Rattle.listed_scopes.specs.Small.{IsSmall}
+use Rattle.std.proofs.Common.{◌≡◌, ◌++◌, None, List, map, sym, ap, ◌∙◌, subst, rules}
+use Rattle.std.specs.List.{AllByRecursion}
+use Rattle.name_table.specs.Variables.{names_of}
+use Rattle.net_model.specs.Words.{Scope}
+use Rattle.net_model.specs.Nets.{net_of}
+use Rattle.net_model.specs.NetLanguages.{letters_of}
+use Rattle.net_model.specs.Problems as problems
+use Rattle.net_model.specs.Problems.{NetFile, first_refusal, problem_of}
+use Rattle.net_model.specs.Topologies.{joint_scope, variable_named}
+use Rattle.net_model.specs.Written.{IsTextVariable}
+use Rattle.net_model.specs.declared.class.Mode.TheVariants.{Sync}
 use Rattle.balm_top.specs.Jobs.{job_of}
-use Rattle.balm_top.proofs.Worked.{workable, solved}
+use Rattle.balm_top.specs.Work.{IsFreeName}
+use Rattle.balm_top.proofs.GoodNames.{x_text, x_free}
+use Rattle.balm_top.proofs.Worked.{net_held, solved_by}
 use Rattle.balm_top.proofs.problem.solve.Goals as goal
 
-pub returns-in-Ok-solve_listed-clause-solved : goal.returns-in-Ok-solve_listed-clause-solved
-returns-in-Ok-solve_listed-clause-solved c =
+pub solve_nets-requires-clause-x_words : goal.solve_nets-requires-clause-x_words
+solve_nets-requires-clause-x_words c =
     let job = job_of c.args.request.now in
-    let f = listing_of c.args.f.now in
-    let s = listing_of c.args.s.now in
-    let joint = scope_of c.in-Ok.joint.items in
-    let x = scope_of c.in-Ok-named_vars.x.items in
-    let names = map (λ name. name.now) c.in-Ok-names_of.names.items in
-    let solution = c.in-Ok-solve_listed.solution in (
-      workable job f s joint names (search rules) (search rules) (search rules) (search rules),
-      solved job f s joint x names solution (search rules) (search rules) (search rules) (search rules) (rw c.deref-8.ensures.value at c.in-Ok-solve_listed.ensures.exact) (search rules),
+    let f = net_of c.args.f in
+    let s = net_of c.args.s in
+    let none : first_refusal Sync (NetFile f) (NetFile s) job.ins job.outs ≡ None = search rules in
+    let x_is : c.x.result.now ≡ map (variable_named (joint_scope (letters_of f) (letters_of s))) (job.ins ++ job.outs) = search rules in
+    subst (AllByRecursion IsTextVariable) (sym x_is) (x_text f s job.ins job.outs none c.requires.f_sound c.requires.s_sound)
+
+pub solve_nets-requires-clause-x_free : goal.solve_nets-requires-clause-x_free
+solve_nets-requires-clause-x_free c =
+    let job = job_of c.args.request.now in
+    let f = net_of c.args.f in
+    let s = net_of c.args.s in
+    let none : first_refusal Sync (NetFile f) (NetFile s) job.ins job.outs ≡ None = search rules in
+    let x_is : c.x.result.now ≡ map (variable_named (joint_scope (letters_of f) (letters_of s))) (job.ins ++ job.outs) = search rules in
+    subst (λ (v : Scope). AllByRecursion IsFreeName (names_of v)) (sym x_is) (x_free f s job.ins job.outs none)
+
+pub returns-in-Ok-solve_nets-clause-solved : goal.returns-in-Ok-solve_nets-clause-solved
+returns-in-Ok-solve_nets-clause-solved c =
+    let job = job_of c.args.request.now in
+    let f = net_of c.args.f in
+    let s = net_of c.args.s in
+    let none : first_refusal Sync (NetFile f) (NetFile s) job.ins job.outs ≡ None = search rules in
+    let x_is : c.x.result.now ≡ map (variable_named (joint_scope (letters_of f) (letters_of s))) (job.ins ++ job.outs) = search rules in (
+      (none, search rules),
+      solved_by job f s _ _ _ _ c.in-Ok-solve_nets.solution (search rules) (search rules) (search rules) x_is c.in-Ok-solve_nets.ensures.letters c.in-Ok-solve_nets.ensures.exact c.in-Ok-solve_nets.ensures.verdict,
     )

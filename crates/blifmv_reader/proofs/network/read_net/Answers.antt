@@ -2,9 +2,12 @@ use Rattle.std.proofs.Common.{Ok, Err}
 use Rattle.net_model.specs.NetTexts.{text_in}
 use Rattle.net_model.specs.declared.net.Net as declared_net
 use Rattle.net_model.specs.Nets.{net_of}
+use Rattle.blifmv_names.proofs.Within.{text_faultless}
 use Rattle.blifmv_reader.proofs.Signals.{table_said}
 use Rattle.blifmv_reader.proofs.Sound.{sound_net}
-use Rattle.blifmv_reader.proofs.Stands.{known_net, said_net, fit_net, stands_net, one_net}
+use Rattle.blifmv_reader.proofs.Stands.{known_net, said_net, fit_net, stands_net}
+use Rattle.net_model.proofs.OneNet.{one_net}
+use Rattle.blifmv_reader.proofs.TextNames.{text_variables}
 use Rattle.blifmv_reader.proofs.Told.{signal_found, refused_in, taken_in}
 use Rattle.blifmv_reader.proofs.network.read_net.Goals as goal
 
@@ -30,7 +33,8 @@ returns-in-Ok-clause-only c = λ other. one_net c.args.bytes.now (net_of c.in_ok
 -- src/network.rt:20:1
 pub returns-in-Ok-clause-sound : goal.returns-in-Ok-clause-sound
 returns-in-Ok-clause-sound c =
-    sound_net (text_in c.args.bytes.now) c.in_ok-names.names (net_of c.in_ok-net.net) (table_said (text_in c.args.bytes.now) c.in_ok-names.names c.in_ok-names.ensures.names c.in_ok-names.ensures.few) c.in_ok-names.ensures.names c.in_ok-net.ensures.rows c.in_ok-net.ensures.net c.in-Ok.ensures.conditions
+    sound_net (text_in c.args.bytes.now) c.in_ok-names.names (net_of c.in_ok-net.net) (table_said (text_in c.args.bytes.now) c.in_ok-names.names c.in_ok-names.ensures.names c.in_ok-names.ensures.few)
+    (text_variables c.args.bytes.now (text_in c.args.bytes.now) c.in_ok-names.ensures.lines (text_faultless c.args.bytes.now c.in_ok-names.ensures.fault).within) c.in_ok-names.ensures.names c.in_ok-net.ensures.rows c.in_ok-net.ensures.net c.in-Ok.ensures.conditions
 
 -- src/network.rt:27:5
 pub returns-in-Err-clause-fault : goal.returns-in-Err-clause-fault

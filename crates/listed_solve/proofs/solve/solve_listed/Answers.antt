@@ -1,4 +1,4 @@
-use Rattle.std.proofs.Common.{◌≡◌, length, vec_len, ap, ◌∙◌, arith}
+use Rattle.std.proofs.Common.{ap, ◌∙◌}
 use Rattle.std.specs.List.{list_any}
 use Rattle.net_model.specs.Listings.{scope_of, listing_of}
 use Rattle.listed_solve.specs.Explored.{letters_in, table_of}
@@ -11,9 +11,8 @@ listed_of-requires-clause-complete c =
     let f = listing_of c.args.f.now in
     let s = listing_of c.args.s.now in
     let x = c.args.x.items in
-    let wide : vec_len c.args.x ≡ length x = search (arith, c.args.x.ok.0) in
-    let is = found joint f s x c.deref.result.now (vec_len c.args.x) c.in_ok-letters.letters.items c.deref-2.result.now (table_of c.in_ok-table.table)
-    c.requires.x_printed.vars c.deref.ensures.value wide c.in_ok-letters.ensures c.deref-2.ensures.value c.in_ok-table.ensures in
+    let is = found joint f s x c.deref.result.now c.in_ok-letters.letters.items c.deref-2.result.now (table_of c.in_ok-table.table)
+    c.deref.ensures.value c.in_ok-letters.ensures c.deref-2.ensures.value c.in_ok-table.ensures in
     is.complete
 
 pub returns-clause-exact : goal.returns-clause-exact
@@ -22,11 +21,10 @@ returns-clause-exact c =
     let f = listing_of c.args.f.now in
     let s = listing_of c.args.s.now in
     let x = c.args.x.items in
-    let wide : vec_len c.args.x ≡ length x = search (arith, c.args.x.ok.0) in
-    let is = found joint f s x c.deref.result.now (vec_len c.args.x) c.in_ok-letters.letters.items c.deref-2.result.now (table_of c.in_ok-table.table)
-    c.requires.x_printed.vars c.deref.ensures.value wide c.in_ok-letters.ensures c.deref-2.ensures.value c.in_ok-table.ensures in
+    let is = found joint f s x c.deref.result.now c.in_ok-letters.letters.items c.deref-2.result.now (table_of c.in_ok-table.table)
+    c.deref.ensures.value c.in_ok-letters.ensures c.deref-2.ensures.value c.in_ok-table.ensures in
     words_are_exact joint (scope_of x) f s (letters_in c.in_ok-letters.letters.items) (table_of c.in_ok-table.table) (listing_of c.in_ok-auto.auto)
-    c.requires.f_printable c.requires.s_printable is.are is.over c.in_ok-auto.ensures
+    c.requires.f_listing c.requires.s_listing is.are is.over c.in_ok-auto.ensures
 
 pub returns-clause-verdict : goal.returns-clause-verdict
 returns-clause-verdict c =
@@ -34,9 +32,8 @@ returns-clause-verdict c =
     let f = listing_of c.args.f.now in
     let s = listing_of c.args.s.now in
     let x = c.args.x.items in
-    let wide : vec_len c.args.x ≡ length x = search (arith, c.args.x.ok.0) in
-    let is = found joint f s x c.deref.result.now (vec_len c.args.x) c.in_ok-letters.letters.items c.deref-2.result.now (table_of c.in_ok-table.table)
-    c.requires.x_printed.vars c.deref.ensures.value wide c.in_ok-letters.ensures c.deref-2.ensures.value c.in_ok-table.ensures in
+    let is = found joint f s x c.deref.result.now c.in_ok-letters.letters.items c.deref-2.result.now (table_of c.in_ok-table.table)
+    c.deref.ensures.value c.in_ok-letters.ensures c.deref-2.ensures.value c.in_ok-table.ensures in
     verdict_is_right (scope_of x) f s (letters_in c.in_ok-letters.letters.items) (table_of c.in_ok-table.table) (listing_of c.in_ok-auto.auto)
     is.count is.over c.in_ok-auto.ensures c.contains-has_word.result
     (c.contains-has_word.ensures.value ∙ (some_true c.deref-3.result.now ∙ ap (list_any (λ mark. mark)) c.deref-3.ensures.value))

@@ -1,0 +1,10 @@
+pub mod Acceptance
+pub mod Counts
+pub mod Digits
+pub mod Language
+pub mod Loops
+pub mod Meant
+pub mod Named
+pub mod Sound
+pub mod StateMarks
+pub mod StepRows

@@ -1,0 +1,4 @@
+pub mod Meanings
+pub mod Small
+pub mod Starts
+pub mod Valuations

@@ -1,0 +1,26 @@
+use Rattle.std.proofs.Common.{◌↔◌, ℕ, List, subst}
+use Rattle.net_model.specs.Words.{Word}
+use Rattle.net_model.specs.Listings.{Listing, ListingWords}
+use Rattle.net_model.specs.Nets.{Net}
+use Rattle.net_model.specs.NetTexts.{StandsForNet}
+use Rattle.net_model.specs.NetLanguages.{NetWords, Means}
+use Rattle.net_model.specs.Written.{IsTextName}
+use Rattle.net_model.specs.Printed.{IsPrintable, printed_text}
+use Rattle.net_model.proofs.OneNet.{one_net}
+use Rattle.printed_nets.specs.PrintedNets.{printed_net}
+use Rattle.printed_nets.proofs.Conditioned.{meets_conditions}
+use Rattle.printed_nets.proofs.Runs.{letters_are, same_words}
+use Rattle.printed_nets.proofs.Stood.{text_stands}
+
+-- What the printed text of an automaton stands for, and means.
+
+pub printed_stands : (name : List ℕ) (auto : Listing) → IsTextName name → IsPrintable auto → StandsForNet (printed_text name auto) (printed_net auto)
+printed_stands name auto text printable = text_stands name auto text printable (meets_conditions auto)
+
+pub printed_means : (name : List ℕ) (auto : Listing) → IsTextName name → IsPrintable auto → (word : Word) → Means (printed_text name auto) auto.vars word ↔ ListingWords auto word
+printed_means name auto text printable word =
+    let stands = printed_stands name auto text printable in
+    let words = same_words auto printable word in (
+      λ means. words.0 (subst (λ (net : Net). NetWords net word) (one_net (printed_text name auto) means.0 (printed_net auto) means.1 stands) means.3),
+      λ in'. (printed_net auto, stands, letters_are auto, words.1 in'),
+    )
