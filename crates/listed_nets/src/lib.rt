@@ -2,7 +2,6 @@
 //! signals.
 #![tactic(auto)]
 
-mod letters;
 mod listing;
 mod rows;
 mod small;

@@ -8,7 +8,6 @@ ghost use Rattle.net_model.specs.SoundNets.{IsSound};
 ghost use Rattle.net_model.specs.Listings.{listing_of, IsListing, ListingWords};
 ghost use Rattle.automata_laws.specs.Letters.{letter_count};
 
-use crate::letters::letter_signals;
 use crate::rows::rows_of;
 use crate::small::MAX_VALUATIONS;
 use crate::states::{accepting_states, initial_states};
@@ -26,7 +25,7 @@ pub fn listed_of(alloc: Global, net: &Net) -> Result<Listed, AllocError>
     ensures states { IfOk result (λ auto. length (listing_of auto).accepting ≡ letter_count (states_of (net_of net.now))) }
     ensures language { IfOk result (λ auto. (word : Word) → ListingWords (listing_of auto) word ↔ NetWords (net_of net.now) word) }
 {
-    let signals = letter_signals(alloc, net)?;
+    let signals = net.letters(alloc)?;
     Ok(Listed {
         vars: signal_vars(alloc, &net.names, &signals)?,
         initial: initial_states(alloc, net)?,
