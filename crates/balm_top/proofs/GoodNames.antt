@@ -149,15 +149,17 @@ chosen_all : (P : Variable → Type 0) (vars : Scope) (signals : List ℕ) → A
 chosen_all P vars [] all known = tt
 chosen_all P vars (signal ∷ signals) all known = (at_place P vars signal all known.0, chosen_all P vars signals all known.1)
 
+abbrev IsKnownIn : Net → ℕ → Type 0
+IsKnownIn net signal = signal < length net.names
+
 pub letters_text : (net : Net) → IsSound net → AllByRecursion IsTextVariable (letters_of net)
 letters_text net sound =
-    let IsKnown = λ (signal : ℕ). signal < length net.names in
-    let inputs : AllByRecursion (λ (signal : ℕ). signal < length net.names) net.inputs = by_recursion (λ (signal : ℕ). signal < length net.names) net.inputs sound.known.inputs in
-    let outputs : AllByRecursion (λ (signal : ℕ). signal < length net.names) net.outputs = by_recursion (λ (signal : ℕ). signal < length net.names) net.outputs sound.known.outputs in
-    let others : AllByRecursion (λ (signal : ℕ). signal < length net.names) (other_outputs net) = kept_all (λ (signal : ℕ). signal < length net.names) (λ signal. not (list_any (nat_eq signal) net.inputs)) net.outputs outputs in
-    let both : AllByRecursion (λ (signal : ℕ). signal < length net.names) (net.inputs ++ other_outputs net) = joined_all (λ (signal : ℕ). signal < length net.names) net.inputs (other_outputs net) inputs others in
-    let signals : AllByRecursion (λ (signal : ℕ). signal < length net.names) (letter_signals net) =
-    elim (is_automaton net) as (λ b. AllByRecursion (λ (signal : ℕ). signal < length net.names) (cond b net.inputs (net.inputs ++ other_outputs net))) [ true ↦ inputs | false ↦ both ] in
+    let inputs = by_recursion (IsKnownIn net) net.inputs sound.known.inputs in
+    let outputs = by_recursion (IsKnownIn net) net.outputs sound.known.outputs in
+    let others = kept_all (IsKnownIn net) (λ signal. not (list_any (nat_eq signal) net.inputs)) net.outputs outputs in
+    let both = joined_all (IsKnownIn net) net.inputs (other_outputs net) inputs others in
+    let signals : AllByRecursion (IsKnownIn net) (letter_signals net) =
+    elim (is_automaton net) as (λ b. AllByRecursion (IsKnownIn net) (cond b net.inputs (net.inputs ++ other_outputs net))) [ true ↦ inputs | false ↦ both ] in
     chosen_all IsTextVariable net.names (letter_signals net) sound.names signals
 
 joint_text : (f s : Net) → IsSound f → IsSound s → AllByRecursion IsTextVariable (joint_scope (letters_of f) (letters_of s))
