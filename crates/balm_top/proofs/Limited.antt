@@ -10,7 +10,6 @@ use Rattle.blifmv_names.specs.Limits.{IsWithinLimits}
 use Rattle.blifmv_names.specs.LineFaults.{line_fault}
 use Rattle.blifmv_names.proofs.Within.{text_faultless}
 use Rattle.blifmv_tables.specs.RowFaults.{row_fault}
-use Rattle.blifmv_signals.specs.SignalFaults.{Known, IsKnown, signal_fault}
 use Rattle.blifmv_reader.specs.Told.{FindsFirst, FindsRowFault, FindsSignalFault, FindsNetFault}
 use Rattle.balm_top.specs.Refusals.{HasFault}
 
@@ -34,7 +33,7 @@ told_first line kind (Some fault) later later' on found = found
 pub fault_told : (bytes : List ℕ) (line : ℕ) (kind : TextKind) → FindsNetFault {T = declared_net.Net} (Err (At line kind)) bytes → HasFault bytes line kind
 fault_told bytes line kind found =
     told_first line kind (line_fault bytes) _ _
-    (told_first line kind (row_fault (variables_in (text_in bytes)) bytes) _ _ (λ (signals : FindsSignalFault {T = declared_net.Net} (Err (At line kind)) bytes). λ known is. signals known is))
+    (told_first line kind (row_fault (variables_in (text_in bytes)) bytes) _ _ (λ (signals : FindsSignalFault {T = declared_net.Net} (Err (At line kind)) bytes). (signals.0, signals.1, signals.2)))
     found
 
 pub fault_is_told : (bytes : List ℕ) (line : ℕ) (kind : TextKind) (fault : TextFault) → fault ≡ At line kind → FindsNetFault {T = declared_net.Net} (Err fault) bytes → HasFault bytes line kind

@@ -9,26 +9,27 @@ use Rattle.net_model.specs.Nets.{Latch}
 use Rattle.net_model.specs.Spellings.{domain_at}
 use Rattle.net_model.specs.Conditions.{MeetsConditions}
 use Rattle.net_model.specs.NetTexts.{place_in, variables_in, latches_on, net_said, rows_stand, text_in, LinesSay}
+use Rattle.blifmv_names.specs.LineFaults.{line_fault}
 use Rattle.blifmv_names.proofs.Within.{text_faultless}
 use Rattle.blifmv_names.proofs.Backward.{no_fault_said}
 use Rattle.blifmv_tables.specs.Drafts.{latch_fits, latches_fit}
 use Rattle.blifmv_tables.proofs.Faultless.{rows_faultless}
-use Rattle.blifmv_signals.specs.SignalFaults.{Known, IsKnown}
 use Rattle.blifmv_signals.proofs.Backward.{without_fault}
 use Rattle.blifmv_signals.proofs.Faultless.{All-left, All-right}
 use Rattle.blifmv_reader.specs.Told.{HasNoFault, StandsWithinLimits}
 use Rattle.blifmv_reader.proofs.Stands.{HasEqualSizes, fits_in}
+use Rattle.blifmv_reader.proofs.Told.{known_of}
 use Rattle.blifmv_reader.proofs.Widths.{stand_fits}
 
 -- without a fault
 
-pub stands_faultless : (bytes : List ℕ) (known : Known) → IsKnown (net_said (text_in bytes)) (text_in bytes) known → HasNoFault known bytes → StandsWithinLimits bytes
-stands_faultless bytes known is_known h =
+pub stands_faultless : (bytes : List ℕ) → HasNoFault bytes → StandsWithinLimits bytes
+stands_faultless bytes h =
     let text = text_in bytes in
     let vars = variables_in text in
     let lines = text_faultless bytes h.lines in
     let rows = (rows_faultless vars bytes).0 h.rows in
-    let conditions = (without_fault (net_said text) bytes known refl is_known (fits_in vars text rows.1)).0 h.signals in
+    let conditions = (without_fault (net_said text) bytes h.signals.known refl h.signals.right (fits_in vars text rows.1)).0 h.signals.picked in
     record {
       net = net_said text;
       stands = record { text = text; lines = lines.says; rows = rows.0; says = refl; conditions = conditions };
@@ -67,16 +68,22 @@ all_fit vars (form ∷ text) h =
     let more = all_fit vars text (All-right (HasEqualSizes vars) (latches_on vars form) (flat_map (latches_on vars) text) h) in
     rw (here, more) refl
 
-pub faultless_standing : (bytes : List ℕ) (known : Known) → IsKnown (net_said (text_in bytes)) (text_in bytes) known → StandsWithinLimits bytes → HasNoFault known bytes
-faultless_standing bytes known is_known h =
+pub faultless_standing : (bytes : List ℕ) → StandsWithinLimits bytes → HasNoFault bytes
+faultless_standing bytes h =
     let text = text_in bytes in
     let vars = variables_in text in
     let same : h.stands.text ≡ text = sym (text_found (logical_lines bytes) h.stands.text h.stands.lines.lines) in
     let says : LinesSay bytes text = subst (LinesSay bytes) same h.stands.lines in
     let rows : rows_stand vars None text ≡ true = subst (λ t. rows_stand (variables_in t) None t ≡ true) same h.stands.rows in
     let conditions : MeetsConditions (net_said text) = subst MeetsConditions (h.stands.says ∙ ap net_said same) h.stands.conditions in
+    let lines : line_fault bytes ≡ None = no_fault_said bytes (record { says = says; fit = stand_fits vars None text rows; within = h.within }) in
+    let known = known_of bytes lines in
     record {
-      lines = no_fault_said bytes (record { says = says; fit = stand_fits vars None text rows; within = h.within });
+      lines = lines;
       rows = (rows_faultless vars bytes).1 (rows, all_fit vars text conditions.latches);
-      signals = (without_fault (net_said text) bytes known refl is_known conditions.latches).1 conditions;
+      signals = record {
+        known = known.0;
+        right = known.1;
+        picked = (without_fault (net_said text) bytes known.0 refl known.1 conditions.latches).1 conditions;
+      };
     }

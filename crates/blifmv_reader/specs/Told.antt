@@ -18,21 +18,24 @@ FindsFirst result (Some fault) later = Finds result (Some fault)
 abbrev pub FindsRowFault : {T : Type 0} → Result T TextFault → List ℕ → Type 0 → Type 0
 FindsRowFault result bytes later = FindsFirst result (row_fault (variables_in (text_in bytes)) bytes) later
 
--- whatever is rightly known of the network that the lines say
+-- the fault of the third pass: something that is rightly known of the network that the lines say picks it
+pub record IsSignalFault (bytes : List ℕ) (fault : Option TextFault) : Type 0 where
+  pub known : Known
+  pub right : IsKnown (net_said (text_in bytes)) (text_in bytes) known
+  pub picked : signal_fault (net_said (text_in bytes)) known bytes ≡ fault
+
 abbrev pub FindsSignalFault : {T : Type 0} → Result T TextFault → List ℕ → Type 0
-FindsSignalFault result bytes =
-    (known : Known) → IsKnown (net_said (text_in bytes)) (text_in bytes) known
-    → Finds result (signal_fault (net_said (text_in bytes)) known bytes)
+FindsSignalFault result bytes = (fault : Option TextFault) × IsSignalFault bytes fault × Finds result fault
 
 abbrev pub FindsNetFault : {T : Type 0} → Result T TextFault → List ℕ → Type 0
 FindsNetFault result bytes =
     FindsFirst result (line_fault bytes) (FindsRowFault result bytes (FindsSignalFault result bytes))
 
 -- no pass finds a fault
-pub record HasNoFault (known : Known) (bytes : List ℕ) : Type 0 where
+pub record HasNoFault (bytes : List ℕ) : Type 0 where
   pub lines : line_fault bytes ≡ None
   pub rows : row_fault (variables_in (text_in bytes)) bytes ≡ None
-  pub signals : signal_fault (net_said (text_in bytes)) known bytes ≡ None
+  pub signals : IsSignalFault bytes None
 
 -- the bytes stand for a network, and pass no limit
 pub record StandsWithinLimits (bytes : List ℕ) : Type 0 where

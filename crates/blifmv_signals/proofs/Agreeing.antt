@@ -102,7 +102,7 @@ no_reset_same vars known whole (DefaultLine words) same = refl
 no_reset_same vars known whole EndLine same = refl
 no_reset_same vars known whole (RowLine words) same = refl
 
-abbrev kind_by_tests : Bool → Bool → Bool → Bool → Option TextKind
+abbrev pub kind_by_tests : Bool → Bool → Bool → Bool → Option TextKind
 kind_by_tests twice undriven no_reset acceptance =
     if twice then Some DrivenTwice
     else (if undriven then Some Undriven

@@ -12,5 +12,5 @@ mod tests;
 mod third_pass;
 mod whole;
 
-pub use laws::signals_without_fault;
+pub use laws::{signals_are_known, signals_without_fault};
 pub use third_pass::check_signals;

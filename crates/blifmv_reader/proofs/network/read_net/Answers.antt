@@ -1,14 +1,18 @@
-use Rattle.std.proofs.Common.{Ok, Err}
+use Rattle.std.proofs.Common.{Result, Ok, Err, sym, ◌∙◌, ap, subst}
+use Rattle.std.proofs.lemmas.Result.{err_from_is_err_and}
 use Rattle.net_model.specs.NetTexts.{text_in}
 use Rattle.net_model.specs.declared.net.Net as declared_net
+use Rattle.net_model.specs.declared.text_fault.TextFault.{TextFault}
 use Rattle.net_model.specs.Nets.{net_of}
+use Rattle.net_model.specs.Words.{Scope}
 use Rattle.blifmv_names.proofs.Within.{text_faultless}
 use Rattle.blifmv_reader.proofs.Signals.{table_said}
 use Rattle.blifmv_reader.proofs.Sound.{sound_net}
 use Rattle.blifmv_reader.proofs.Stands.{known_net, said_net, fit_net, stands_net}
 use Rattle.net_model.proofs.OneNet.{one_net}
 use Rattle.blifmv_reader.proofs.TextNames.{text_variables}
-use Rattle.blifmv_reader.proofs.Told.{signal_found, refused_in, taken_in}
+use Rattle.blifmv_reader.specs.Told.{FindsNetFault}
+use Rattle.blifmv_reader.proofs.Told.{names_refused, rows_refused, signal_found, refused_in, taken_in}
 use Rattle.blifmv_reader.proofs.network.read_net.Goals as goal
 
 -- src/network.rt:28:5
@@ -47,3 +51,17 @@ pub returns-in-Ok-clause-fault : goal.returns-in-Ok-clause-fault
 returns-in-Ok-clause-fault c =
     signal_found (Ok c.in_ok-net.net) c.args.bytes.now c.in_ok-names.names (net_of c.in_ok-net.net) c.in_ok-names.ensures.fault c.in_ok-names.ensures.names c.in_ok-net.ensures.fault c.in_ok-net.ensures.net
     (taken_in (Unit {0}) declared_net.Net tt c.in_ok-net.net c.args.bytes.now (net_of c.in_ok-net.net) c.in-Ok.ensures.fault)
+
+-- src/network.rt:25:17
+pub returns-in_err-names-clause-fault : goal.returns-in_err-names-clause-fault
+returns-in_err-names-clause-fault c =
+    let back = err_from_is_err_and c.from_residual.result c.from_residual.ensures.1 in
+    subst (λ (r : Result declared_net.Net TextFault). FindsNetFault r c.args.bytes.now) (sym (back.1 ∙ ap Err back.2))
+    (names_refused Scope declared_net.Net c.in_err-names.field-0.0 c.args.bytes.now c.in_err-names.ensures.fault)
+
+-- src/network.rt:26:15
+pub returns-in_err-net-clause-fault : goal.returns-in_err-net-clause-fault
+returns-in_err-net-clause-fault c =
+    let back = err_from_is_err_and c.from_residual-in_err-net.result c.from_residual-in_err-net.ensures.1 in
+    subst (λ (r : Result declared_net.Net TextFault). FindsNetFault r c.args.bytes.now) (sym (back.1 ∙ ap Err back.2))
+    (rows_refused declared_net.Net declared_net.Net c.in_err-net.field-0.0 c.args.bytes.now c.in_ok-names.names c.in_ok-names.ensures.fault c.in_ok-names.ensures.names c.in_err-net.ensures.fault)
