@@ -12,7 +12,7 @@ use Rattle.std.proofs.lemmas.Slice.Eq.{slice_eq-Decides}
 use Rattle.net_model.specs.Printed.{RisesBelow}
 use Rattle.guard_rows.specs.Guards.{Branch, branches_of, raised, with_bit_one, with_bit_free}
 use Rattle.guard_rows.proofs.Lists.{or_front, or_back, any_map, any_agree, any_agree_on, any_false, all_append, all_map, all_both, all_weaker, unmarked, unmarked_all}
-use Rattle.guard_rows.proofs.Codes.{twice}
+use Rattle.name_table.proofs.Powers.{twice}
 
 -- The branches of a set of codes, by induction on the number of bits.
 

@@ -1,40 +1,17 @@
 use Rattle.std.proofs.Common.{◌≡◌, ◌∙◌, sym, ap, arith, ◌+◌, ◌-◌, ◌*◌, ◌^◌, ◌<◌, ◌≤◌, ℕ, zero, suc, Bool, false, List, ◌++◌, length, take, replicate, get_or, inl, inr}
 use Rattle.std.specs.Prelude.{nat_le}
-use Rattle.std.proofs.Math.Nat.{pow-le-pow_right, mul-le-mul_right}
+use Rattle.std.proofs.Math.Nat.{mul-le-mul_right}
 use Rattle.std.proofs.Math.Seq.{get_or-append_right}
 use Rattle.std.proofs.lemmas.Bool.{cond_both, leb-true, leb-false, cases_lt}
 use Rattle.std.proofs.lemmas.List.{length-append, length-replicate, get_or-replicate, get_or_append_left, get_or_past, take_all}
-use Rattle.std.proofs.lemmas.Nat.{pow_pos, mul-add-lt}
-use Rattle.guard_rows.specs.Guards.{code_bits, coded}
+use Rattle.std.proofs.lemmas.Nat.{mul-add-lt}
+use Rattle.name_table.specs.CodeBits.{code_bits}
+use Rattle.name_table.proofs.Powers.{twice, code_enough}
+use Rattle.guard_rows.specs.Guards.{coded}
 
 -- The codes of the values of a domain.
 
-pub twice : (b : ℕ) → 2 ^ suc b ≡ 2 * 2 ^ b
-twice b = omega arith
-
--- each value has a code
-pub code_enough : (n : ℕ) → n ≤ 2 ^ code_bits n
-code_enough zero = omega arith
-code_enough (suc n) =
-    cond_both (nat_le (suc n) (2 ^ code_bits n)) (code_bits n) (suc (code_bits n)) (λ b. suc n ≤ 2 ^ b)
-    (λ fits. leb-true (suc n) (2 ^ code_bits n) fits)
-    (λ over. let some = pow_pos (code_bits n) in let before = code_enough n in omega (arith, twice (code_bits n)))
-
--- fewer bits don't do
-pub code_least : (n b : ℕ) → n ≤ 2 ^ b → code_bits n ≤ b
-code_least zero b enough = omega arith
-code_least (suc n) b enough =
-    cond_both (nat_le (suc n) (2 ^ code_bits n)) (code_bits n) (suc (code_bits n)) (λ k. k ≤ b)
-    (λ fits. code_least n b (omega arith))
-    (λ over. elim (cases_lt (code_bits n) b) [
-      | inl less ↦ omega arith
-      | inr more ↦
-          let short = leb-false (suc n) (2 ^ code_bits n) over in
-          let below : 2 ^ b ≤ 2 ^ code_bits n = pow-le-pow_right {n = 2} (omega arith) more in
-          absurd (omega arith)
-    ])
-
--- so less than half of the codes stand past the end
+-- less than half of the codes stand past the end
 pub code_small : (n : ℕ) → 0 < n → 2 ^ code_bits n < 2 * n
 code_small zero some = absurd (omega arith)
 code_small (suc zero) some = omega arith
@@ -42,18 +19,6 @@ code_small (suc (suc n)) some =
     cond_both (nat_le (suc (suc n)) (2 ^ code_bits (suc n))) (code_bits (suc n)) (suc (code_bits (suc n))) (λ b. 2 ^ b < 2 * suc (suc n))
     (λ fits. let before = code_small (suc n) (omega arith) in omega arith)
     (λ over. let short = leb-false (suc (suc n)) (2 ^ code_bits (suc n)) over in omega (arith, twice (code_bits (suc n))))
-
-pub code_few : (n : ℕ) → n < 2 ^ 32 → code_bits n ≤ 32
-code_few n few = code_least n 32 (omega arith)
-
--- the first number of bits that does
-pub code_is : (n b : ℕ) → n ≤ 2 ^ b → ((k : ℕ) → k < b → 2 ^ k < n) → b ≡ code_bits n
-code_is n b enough before =
-    let least = code_least n b enough in
-    elim (cases_lt (code_bits n) b) [
-      | inl less ↦ let short = before (code_bits n) less in let whole = code_enough n in absurd (omega arith)
-      | inr more ↦ omega arith
-    ]
 
 -- the letters past the end
 past_end : (n letters : ℕ) → n * letters + (2 ^ code_bits n - n) * letters ≡ 2 ^ code_bits n * letters

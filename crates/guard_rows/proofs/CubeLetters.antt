@@ -2,14 +2,16 @@ use Rattle.std.proofs.Common.{◌≡◌, ◌∙◌, refl, ap, arith, ◌*◌, �
 use Rattle.std.specs.List.{AllByRecursion, list_any}
 use Rattle.std.specs.Bool.{beq}
 use Rattle.std.proofs.lemmas.Bool.{cond_both}
+use Rattle.name_table.specs.CodeBits.{code_bits}
+use Rattle.name_table.proofs.Powers.{code_enough}
 use Rattle.net_model.specs.Words.{Variable, Scope, Letter, IsLetter}
 use Rattle.net_model.specs.Listings.{allows}
 use Rattle.net_model.specs.Printed.{IsEntry, AreEntries}
 use Rattle.automata_laws.specs.Letters.{letter_count, letter_place}
 use Rattle.automata_laws.proofs.Places.{place_below}
-use Rattle.guard_rows.specs.Guards.{Branch, code_bits, coded, branches_of, with_entry, cubes_of}
+use Rattle.guard_rows.specs.Guards.{Branch, coded, branches_of, with_entry, cubes_of}
 use Rattle.guard_rows.proofs.Lists.{any_agree, any_agree_on, any_map, any_and, any_flat_map, all_both, all_map, all_flat_map}
-use Rattle.guard_rows.proofs.Codes.{code_enough, coded_length, coded_at, coded_past}
+use Rattle.guard_rows.proofs.Codes.{coded_length, coded_at, coded_past}
 use Rattle.guard_rows.proofs.Branches.{takes, IsRising, branch_lengths, branches_take, branches_rise}
 
 -- The cubes of a set of letters.

@@ -5,11 +5,12 @@ use Rattle.std.specs.Cmp.Lexicographic.{pointwise}
 use Rattle.std.proofs.Math.Nat.{mul-div_cancel_left}
 use Rattle.std.proofs.lemmas.Bool.{cond-true, cond-false}
 use Rattle.std.proofs.lemmas.List.{length-map, take_all}
+use Rattle.name_table.specs.CodeBits.{code_bits}
 use Rattle.net_model.specs.Words.{Scope}
 use Rattle.net_model.specs.Listings.{scope_of, variable_of}
 use Rattle.net_model.specs.declared.listed.ListedVar.{ListedVar}
 use Rattle.automata_laws.specs.Letters.{HasFewValues, letter_count}
-use Rattle.guard_rows.specs.Guards.{Branch, branch_of, branches_of, code_bits, coded, cubes_of, with_bit_one, with_bit_free}
+use Rattle.guard_rows.specs.Guards.{Branch, branch_of, branches_of, coded, cubes_of, with_bit_one, with_bit_free}
 use Rattle.guard_rows.specs.declared.bits.Branch as declared
 use Rattle.guard_rows.proofs.Branches.{AreBelow, branches_below}
 use Rattle.guard_rows.proofs.CubeLetters.{marked, cubes_from, branches_at, letters_whole}

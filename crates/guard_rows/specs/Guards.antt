@@ -1,8 +1,9 @@
-use Rattle.std.specs.Prelude.{◌≡◌, ◌<◌, ◌+◌, ◌-◌, ◌*◌, ◌/◌, ◌^◌, ◌==◌, ◌&&◌, ℕ, zero, suc, nat_le, Bool, false, List, [], ◌∷◌, ◌++◌, length, map, take, drop, replicate, slice_index, if◌then◌else◌, Vec}
+use Rattle.std.specs.Prelude.{◌≡◌, ◌<◌, ◌+◌, ◌-◌, ◌*◌, ◌/◌, ◌^◌, ◌==◌, ◌&&◌, ℕ, zero, suc, Bool, false, List, [], ◌∷◌, ◌++◌, length, map, take, drop, replicate, slice_index, if◌then◌else◌, Vec}
 use Rattle.std.specs.Cmp.Lexicographic.{pointwise}
 use Rattle.std.specs.Bool.{beq}
 use Rattle.std.specs.List.{AllByRecursion, list_any, flat_map}
 use Rattle.std.specs.declared.alloc.Global.{Global}
+use Rattle.name_table.specs.CodeBits.{code_bits}
 use Rattle.net_model.specs.Words.{Scope, Letter, IsLetter}
 use Rattle.net_model.specs.Listings.{Row, allows}
 use Rattle.net_model.specs.Printed.{IsPrintedRow}
@@ -29,11 +30,6 @@ with_entry entry cubes = map (λ entries. entry ∷ entries) cubes
 
 -- A set of letters over a scope has a mark for each letter, in the order of the letters. So it is cut by the value of the
 -- first variable: as many marks for each value as there are letters over the variables after it.
-
--- the bits of a code of n values: the least number b with n ≤ 2 ^ b
-abbrev pub code_bits : ℕ → ℕ
-code_bits zero = 0
-code_bits (suc n) = if nat_le (suc n) (2 ^ code_bits n) then code_bits n else suc (code_bits n)
 
 -- The set of codes of n values, each of which goes with letters over the variables after. A code past the end of the
 -- domain is in no set.

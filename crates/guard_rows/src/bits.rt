@@ -3,6 +3,7 @@
 ghost use Rattle.std.specs.Prelude.{◌≡◌, ◌≤◌, ◌<◌, ◌-◌, ◌*◌, ◌^◌, ◌++◌, ℕ, List, length, map, IfOk, OnOk};
 ghost use Rattle.std.specs.List.{AllByRecursion};
 ghost use Rattle.guard_rows.specs.Guards as guards;
+ghost use Rattle.name_table.specs.CodeBits as codes;
 ghost use Rattle.guard_rows.specs.Guards.{branch_of, branches_of, raised, with_bit_one, with_bit_free};
 
 use std::alloc::{AllocError, Global};
@@ -13,22 +14,6 @@ use std::alloc::{AllocError, Global};
 pub struct Branch<'a> {
     pub values: Vec<u32>,
     pub letters: &'a [bool],
-}
-
-/// How many bits code this many values.
-pub fn code_bits(values: usize) -> u32
-    requires { values < 2 ^ 32 }
-    ensures bits { result ≡ guards.code_bits values }
-    ensures enough { values ≤ 2 ^ result }
-    ensures least { (bits : ℕ) → values ≤ 2 ^ bits → result ≤ bits }
-    ensures few { result ≤ 32 }
-{
-    for bits in 0..32u32 {
-        if values <= 1usize << bits {
-            return bits;
-        }
-    }
-    32
 }
 
 /// The set with marks for the codes past the end of a domain of this many values, which are in no set. `letters` is the
@@ -42,7 +27,7 @@ pub fn coded(
 ) -> Result<Vec<bool>, AllocError>
     requires some { 0 < values }
     requires few { values < 2 ^ 32 }
-    requires code { bits ≡ guards.code_bits values }
+    requires code { bits ≡ codes.code_bits values }
     requires whole { length set.now ≡ values * letters }
     ensures { IfOk result (λ codes. codes.items ≡ guards.coded values letters set.now) }
 {

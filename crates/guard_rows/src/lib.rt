@@ -10,7 +10,8 @@ ghost use Rattle.net_model.specs.Listings.{Row, row_of, scope_of};
 ghost use Rattle.automata_laws.specs.Letters.{HasFewValues, letter_count};
 ghost use Rattle.guard_rows.specs.Guards.{AreRowsOf, entries_of, with_entry, cubes_of, marks_to, rows_of_guard};
 
-use bits::{branches, code_bits, coded};
+use bits::{branches, coded};
+use name_table::code_bits;
 use net_model::{ListedRow, ListedVar, ValueSet};
 use std::alloc::{AllocError, Global};
 

@@ -1,4 +1,5 @@
 pub mod Apart
 pub mod Chosen
 pub mod Found
+pub mod Powers
 pub mod Shown

@@ -1,3 +1,4 @@
 pub mod Causes
+pub mod CodeBits
 pub mod ScopeVars
 pub mod Variables

@@ -2,6 +2,7 @@
 //! variables in the order in which they were added, and a `Scope` is a list of variables that words run over.
 #![tactic(auto)]
 
+mod bits;
 mod domain;
 mod fault;
 mod name_set;
@@ -11,6 +12,7 @@ mod scope_var;
 #[cfg(test)]
 mod tests;
 
+pub use bits::code_bits;
 pub use domain::Domain;
 pub use fault::{DomainFault, NameFault};
 #[doc(hidden)]

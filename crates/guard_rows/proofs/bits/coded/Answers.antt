@@ -1,6 +1,7 @@
 use Rattle.std.proofs.Common.{◌∙◌, ◌-◌, ◌*◌, ◌^◌, ap, arith}
 use Rattle.std.proofs.lemmas.Nat.{one_shl}
-use Rattle.guard_rows.proofs.Codes.{code_enough, code_few, past_fits, filled_up}
+use Rattle.name_table.proofs.Powers.{code_enough, code_few}
+use Rattle.guard_rows.proofs.Codes.{past_fits, filled_up}
 use Rattle.guard_rows.proofs.bits.coded.Goals as goal
 
 pub overflow_shl-past_the_end : goal.overflow_shl-past_the_end

@@ -1,5 +1,5 @@
 use Rattle.std.proofs.Common.{◌^◌, ◌<◌, ℕ}
-use Rattle.guard_rows.proofs.bits.code_bits.Given as goal
+use Rattle.name_table.proofs.bits.code_bits.Given as goal
 
 abbrev pub invariant-loop-bits : goal.invariant-loop-bits
 invariant-loop-bits l = (k : ℕ) → k < l.bits → 2 ^ k < l.values

@@ -1,7 +1,7 @@
 use Rattle.std.proofs.Common.{arith}
 use Rattle.std.proofs.lemmas.Nat.{one_shl}
-use Rattle.guard_rows.proofs.Codes.{code_is}
-use Rattle.guard_rows.proofs.bits.code_bits.Goals as goal
+use Rattle.name_table.proofs.Powers.{code_is}
+use Rattle.name_table.proofs.bits.code_bits.Goals as goal
 
 pub returns-then-values-bits-clause-bits : goal.returns-then-values-bits-clause-bits
 returns-then-values-bits-clause-bits c =
