@@ -11,9 +11,10 @@ use Rattle.net_model.specs.declared.text_fault.TextKind.TheVariants.{UnknownDire
 use Rattle.net_model.specs.declared.text_fault.Which.TheVariants.{Signals, Values, Columns, Rows}
 use Rattle.net_model.specs.Forms.{Name, Form, ModelLine, InputsLine, OutputsLine, DomainsLine, TableLine, ResetLine, LatchLine, DefaultLine, EndLine, RowLine, is_mark, is_comma, directive_of, has_count, unmarked, latch_shape, end_shape, domains_shape, values_shape, columns_shape, table_shape, before_arrow, behind_arrow, shape_by, shape_of, apart, words_of, said_by, has_names}
 use Rattle.net_model.specs.NetTexts.{mentions, domain_given, domain_in, has_domains, is_model, is_end, ends_once, text_in, LinesSay}
+use Rattle.net_model.specs.Faults.{fault_or}
 use Rattle.blifmv_names.specs.declared.place.Place.{Place}
 use Rattle.blifmv_names.specs.Signals.{Signal, given_in, with_mentions, signals_behind, signals_from, agrees}
-use Rattle.blifmv_names.specs.LineFaults.{is_model_word, is_unknown, is_misfit, is_second_default, has_many_values, has_many_columns, rows_on, limit_on, is_clashing, kind_of_names, limit_or, kind_of_form, kind_of_shape, kind_of_words, place_behind, fault_or, fault_behind, first_fault, nothing_above, begins_model, begins_model_words, line_fault}
+use Rattle.blifmv_names.specs.LineFaults.{is_model_word, is_unknown, is_misfit, is_second_default, has_many_values, has_many_columns, rows_on, limit_on, is_clashing, kind_of_names, limit_or, kind_of_form, kind_of_shape, kind_of_words, place_behind, fault_behind, first_fault, nothing_above, begins_model, begins_model_words, line_fault}
 use Rattle.blifmv_names.specs.Limits.{rows_in, IsFaultless}
 use Rattle.blifmv_names.proofs.Gathered.{domain_with, domain_behind, given_all_mentioned}
 use Rattle.blifmv_names.proofs.Mentions.{more_all_mentioned}

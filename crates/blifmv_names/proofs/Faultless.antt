@@ -21,7 +21,8 @@ use Rattle.net_model.specs.NetTexts.{domain_given, domain_in, has_domains, is_mo
 use Rattle.blifmv_names.specs.declared.place.Place.{Place}
 use Rattle.blifmv_names.specs.Signals.{Signal, AreSignals, names_of, given_in, with_mentions, signals_behind, signals_from, agrees, variables_of}
 use Rattle.net_model.specs.Words.{Scope}
-use Rattle.blifmv_names.specs.LineFaults.{is_instance_word, is_model_word, is_unknown, is_misfit, is_second_default, limit_on, is_clashing, kind_of_names, limit_or, kind_of_form, kind_of_shape, kind_of_words, place_behind, fault_or, fault_behind, first_fault, nothing_above, first_line, begins_model, begins_model_words, line_fault}
+use Rattle.net_model.specs.Faults.{fault_or}
+use Rattle.blifmv_names.specs.LineFaults.{is_instance_word, is_model_word, is_unknown, is_misfit, is_second_default, limit_on, is_clashing, kind_of_names, limit_or, kind_of_form, kind_of_shape, kind_of_words, place_behind, fault_behind, first_fault, nothing_above, first_line, begins_model, begins_model_words, line_fault}
 use Rattle.blifmv_names.proofs.Gathered.{AreThere, domain_with, domain_behind, given_all_mentioned, variables_from}
 
 -- tests

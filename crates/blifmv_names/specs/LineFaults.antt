@@ -13,6 +13,7 @@ use Rattle.net_model.specs.declared.text_fault.Which.TheVariants.{Signals, Value
 use Rattle.net_model.specs.Forms.{Name, Form, DomainsLine, TableLine, ResetLine, DefaultLine, RowLine, directive_of, number_of, has_count, shape_of, apart, words_of, has_names}
 use Rattle.net_model.specs.Spellings.{spells}
 use Rattle.net_model.specs.NetTexts.{is_model, is_end, domain_given}
+use Rattle.net_model.specs.Faults.{fault_or}
 use Rattle.blifmv_names.specs.declared.line_fault.LineFault.{LineFault}
 use Rattle.blifmv_names.specs.declared.line_fault.LineFault.TheVariants.{Kind, Memory}
 use Rattle.blifmv_names.specs.declared.place.Place.{Place}
@@ -141,10 +142,6 @@ place_behind place form = record {
 }
 
 -- the first fault of these lines
-
-abbrev pub fault_or : Option TextKind → ℕ → Option TextFault → Option TextFault
-fault_or None line later = later
-fault_or (Some kind) line later = Some (At line kind)
 
 abbrev pub fault_behind : (Place → List Signal → Option TextFault) → Place → List Signal → Option Form → Option TextFault
 fault_behind more place signals None = None

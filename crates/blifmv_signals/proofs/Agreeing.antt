@@ -10,12 +10,14 @@ use Rattle.net_model.specs.Forms.{Name, Form, ModelLine, InputsLine, OutputsLine
 use Rattle.net_model.specs.NetTexts.{places_in, net_with}
 use Rattle.net_model.specs.Nets.{Net}
 use Rattle.net_model.specs.Conditions.{times_driven}
+use Rattle.net_model.specs.Faults.{fault_or}
 use Rattle.net_conditions.specs.Marks.{is_marked}
 use Rattle.net_conditions.proofs.Marking.{Adds-none}
-use Rattle.net_conditions.proofs.Listed.{Decides-member, Decides-counted}
+use Rattle.net_model.proofs.Computed.{Decides-member}
+use Rattle.net_conditions.proofs.Listed.{Decides-counted}
 use Rattle.blifmv_signals.specs.declared.above.Above.{Above}
 use Rattle.blifmv_signals.specs.declared.whole.Whole.{Whole}
-use Rattle.blifmv_signals.specs.SignalFaults.{drives_on, sets_on, uses_on, names_outputs, is_among, some_twice, is_driven_twice, is_no_reset, fault_or, kind_said, seen_said, first_fault, nothing_seen, Seen, Known, IsKnown}
+use Rattle.blifmv_signals.specs.SignalFaults.{drives_on, sets_on, uses_on, names_outputs, is_among, some_twice, is_driven_twice, is_no_reset, kind_said, seen_said, first_fault, nothing_seen, Seen, Known, IsKnown}
 use Rattle.blifmv_signals.specs.Marked.{all_marked, marks_twice, nothing_above, above_by, is_twice_by, is_no_reset_by, kind_by, marked_fault, IsWhole}
 use Rattle.blifmv_signals.proofs.Marking.{IsOf, twice_named, marked_named}
 use Rattle.blifmv_signals.proofs.Counted.{counted}

@@ -15,9 +15,11 @@ use Rattle.net_model.specs.Nets.{Net, Table, Latch}
 use Rattle.net_model.specs.NetTexts.{distinct, place_in, places_in, outputs_on, latches_on, tables_in, resets_in, net_with, text_in}
 use Rattle.net_model.specs.Spellings.{domain_at}
 use Rattle.net_model.specs.Conditions.{columns_of, uses, latch_outputs, times_driven, Varies, IsConstant, IsReset, MeetsConditions}
+use Rattle.net_model.specs.Faults.{fault_or}
 use Rattle.net_conditions.specs.Marks.{is_marked, IsSetOf}
-use Rattle.net_conditions.proofs.Listed.{IsOnce, counts_found, Decides-member, Decides-counted}
-use Rattle.blifmv_signals.specs.SignalFaults.{drives_on, sets_on, uses_on, names_outputs, is_among, some_twice, is_undriven, is_no_reset, kind_of_signals, fault_or, kind_said, seen_said, seen_behind, first_fault, signal_fault, nothing_seen, Seen, Known, IsKnown}
+use Rattle.net_model.proofs.Computed.{Decides-member}
+use Rattle.net_conditions.proofs.Listed.{IsOnce, counts_found, Decides-counted}
+use Rattle.blifmv_signals.specs.SignalFaults.{drives_on, sets_on, uses_on, names_outputs, is_among, some_twice, is_undriven, is_no_reset, kind_of_signals, kind_said, seen_said, seen_behind, first_fault, signal_fault, nothing_seen, Seen, Known, IsKnown}
 use Rattle.blifmv_signals.proofs.Counted.{counted}
 use Rattle.blifmv_signals.proofs.Passing.{Passes, AllPass, all_pass}
 use Rattle.blifmv_signals.proofs.Faultless.{All-left, All-right, All-named, sets_of, conditions_met}

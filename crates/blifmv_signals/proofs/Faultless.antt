@@ -14,7 +14,8 @@ use Rattle.net_model.specs.NetTexts.{distinct, place_in, places_in, outputs_on, 
 use Rattle.net_model.specs.Spellings.{domain_at}
 use Rattle.net_model.specs.Conditions.{columns_of, uses, latch_outputs, times_driven, Varies, IsConstant, IsReset, MeetsConditions}
 use Rattle.net_conditions.specs.Marks.{is_marked, IsSetOf}
-use Rattle.net_conditions.proofs.Listed.{IsOnce, Decides-member, Decides-counted}
+use Rattle.net_model.proofs.Computed.{Decides-member}
+use Rattle.net_conditions.proofs.Listed.{IsOnce, Decides-counted}
 use Rattle.blifmv_signals.specs.SignalFaults.{drives_on, sets_on, uses_on, is_among, nothing_seen, seen_behind, Seen, Known, IsKnown, AcceptsRightly}
 use Rattle.blifmv_signals.specs.declared.whole.Whole.{Whole}
 use Rattle.blifmv_signals.specs.Marked.{nothing_above, marked_fault, IsWhole}

@@ -15,9 +15,10 @@ use Rattle.net_model.specs.NetTexts.{places_in}
 use Rattle.net_model.specs.SoundNets.{HasKnownSignals}
 use Rattle.net_model.specs.Spellings.{domain_at}
 use Rattle.net_model.specs.Words.{Scope}
+use Rattle.net_model.specs.Faults.{fault_or}
 use Rattle.net_model.proofs.Computed.{acceptance_decided}
 use Rattle.net_conditions.specs.Marks.{is_marked}
-use Rattle.blifmv_signals.specs.SignalFaults.{drives_on, names_outputs, is_among, is_driven_twice, is_undriven, is_no_reset, fault_or, kind_said, seen_said, first_fault, nothing_seen, signal_fault, Seen, Known, IsKnown, AcceptsRightly}
+use Rattle.blifmv_signals.specs.SignalFaults.{drives_on, names_outputs, is_among, is_driven_twice, is_undriven, is_no_reset, kind_said, seen_said, first_fault, nothing_seen, signal_fault, Seen, Known, IsKnown, AcceptsRightly}
 use Rattle.blifmv_signals.proofs.Agreeing.{kind_by_tests}
 use Rattle.blifmv_signals.proofs.Rounds.{varying_marked}
 

@@ -7,8 +7,9 @@ use Rattle.net_model.specs.declared.text_fault.TextKind.{TextKind}
 use Rattle.net_model.specs.declared.text_fault.TextKind.TheVariants.{DrivenTwice, Undriven, ResetNotConstant, AccShape}
 use Rattle.net_model.specs.Words.{Scope}
 use Rattle.net_model.specs.Forms.{Form, said_by}
+use Rattle.net_model.specs.Faults.{fault_or}
 use Rattle.net_conditions.proofs.Listed.{IsOnce, once_more}
-use Rattle.blifmv_signals.specs.SignalFaults.{drives_on, sets_on, names_outputs, is_among, some_twice, is_undriven, is_no_reset, kind_of_signals, fault_or, kind_said, seen_said, seen_behind, first_fault, Seen, Known}
+use Rattle.blifmv_signals.specs.SignalFaults.{drives_on, sets_on, names_outputs, is_among, some_twice, is_undriven, is_no_reset, kind_of_signals, kind_said, seen_said, seen_behind, first_fault, Seen, Known}
 
 -- no test of a line finds a fault
 pub record Passes (vars : Scope) (known : Known) (seen : Seen) (form : Form) : Type 0 where

@@ -9,8 +9,9 @@ use Rattle.net_model.specs.Forms.{Form, ResetLine, said_by}
 use Rattle.net_model.specs.Nets.{Net}
 use Rattle.net_model.specs.NetTexts.{places_in}
 use Rattle.net_model.specs.Conditions.{times_driven, latch_outputs, Varies}
+use Rattle.net_model.specs.Faults.{fault_or}
 use Rattle.net_conditions.specs.Marks.{is_marked, IsSetOf}
-use Rattle.blifmv_signals.specs.SignalFaults.{drives_on, sets_on, uses_on, names_outputs, fault_or, AcceptsRightly}
+use Rattle.blifmv_signals.specs.SignalFaults.{drives_on, sets_on, uses_on, names_outputs, AcceptsRightly}
 use Rattle.blifmv_signals.specs.declared.above.Above.{Above}
 use Rattle.blifmv_signals.specs.declared.whole.Whole.{Whole}
 

@@ -2,7 +2,6 @@ use Rattle.std.specs.Prelude.{◌≡◌, ◌↔◌, ℕ, Bool, true, false, not,
 use Rattle.std.specs.List.{list_any, flat_map}
 use Rattle.lex_core.specs.LogicalLines.{LogicalLine, logical_lines}
 use Rattle.net_model.specs.declared.text_fault.TextFault.{TextFault}
-use Rattle.net_model.specs.declared.text_fault.TextFault.TheVariants.{At}
 use Rattle.net_model.specs.declared.text_fault.TextKind.{TextKind}
 use Rattle.net_model.specs.declared.text_fault.TextKind.TheVariants.{DrivenTwice, Undriven, ResetNotConstant, AccShape}
 use Rattle.net_model.specs.Words.{Scope}
@@ -10,6 +9,7 @@ use Rattle.net_model.specs.Forms.{Form, InputsLine, OutputsLine, TableLine, Rese
 use Rattle.net_model.specs.Nets.{Net}
 use Rattle.net_model.specs.NetTexts.{place_in, places_in}
 use Rattle.net_model.specs.Conditions.{Varies, IsAutomaton, HasAcceptance, latch_outputs}
+use Rattle.net_model.specs.Faults.{fault_or}
 use Rattle.net_conditions.specs.Marks.{is_marked, IsSetOf}
 
 -- Which fault of the third pass a line has: how its signals are driven, reset and used.
@@ -88,10 +88,6 @@ kind_of_signals vars known seen form =
     else (if is_undriven vars known.all form then Some Undriven
     else (if is_no_reset vars known.varying known.latches form then Some ResetNotConstant
     else (if names_outputs form && (not seen.has_outputs && not known.acceptance) then Some AccShape else None)))
-
-abbrev pub fault_or : Option TextKind → ℕ → Option TextFault → Option TextFault
-fault_or None line later = later
-fault_or (Some kind) line later = Some (At line kind)
 
 -- a line without the form of its directive says nothing
 abbrev pub kind_said : Scope → Known → Seen → Option Form → Option TextKind

@@ -10,8 +10,9 @@ use Rattle.net_model.specs.Words.{Scope}
 use Rattle.net_model.specs.Forms.{Name, Form, ModelLine, InputsLine, OutputsLine, DomainsLine, TableLine, ResetLine, LatchLine, DefaultLine, EndLine, RowLine, said_by}
 use Rattle.net_model.specs.Spellings.{row_spelled, default_spelled}
 use Rattle.net_model.specs.NetTexts.{OpenTable, line_stands, rows_stand, text_in}
+use Rattle.net_model.specs.Faults.{fault_or}
 use Rattle.blifmv_tables.specs.Drafts.{latch_fits, latches_fit}
-use Rattle.blifmv_tables.specs.RowFaults.{kind_unless, kind_of_row, kind_of_outputs, row_kind, default_kind, line_kind, fault_or, kind_said, open_said, first_fault, row_fault}
+use Rattle.blifmv_tables.specs.RowFaults.{kind_unless, kind_of_row, kind_of_outputs, row_kind, default_kind, line_kind, kind_said, open_said, first_fault, row_fault}
 
 -- the tests of a line: it stands where it is a row or default, and fits where it is a latch
 record Passes (vars : Scope) (table : Option OpenTable) (form : Form) : Type 0 where

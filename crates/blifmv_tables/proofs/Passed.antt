@@ -7,8 +7,9 @@ use Rattle.net_model.specs.declared.text_fault.TextFault.{TextFault}
 use Rattle.net_model.specs.declared.text_fault.TextKind.{TextKind}
 use Rattle.net_model.specs.Forms.{Form, said_by}
 use Rattle.net_model.specs.NetTexts.{rows_stand}
+use Rattle.net_model.specs.Faults.{fault_or}
 use Rattle.blifmv_tables.specs.Drafts.{Draft, draft_from, open_of}
-use Rattle.blifmv_tables.specs.RowFaults.{fault_at, fault_or, kind_said, open_said, first_fault}
+use Rattle.blifmv_tables.specs.RowFaults.{fault_at, kind_said, open_said, first_fault}
 use Rattle.blifmv_tables.specs.Saying.{draft_by, stands_by}
 use Rattle.blifmv_tables.proofs.Drafted.{open_drafted}
 

@@ -9,6 +9,7 @@ use Rattle.net_model.specs.Words.{Scope}
 use Rattle.net_model.specs.Forms.{Name, Form, RowLine, DefaultLine, LatchLine, said_by}
 use Rattle.net_model.specs.Spellings.{Spelled, Same, Taken, domain_at, entry_at, input_entry, row_spelled, default_spelled}
 use Rattle.net_model.specs.NetTexts.{OpenTable, open_behind}
+use Rattle.net_model.specs.Faults.{fault_or}
 use Rattle.blifmv_tables.specs.Drafts.{latch_fits}
 
 -- Which fault of the second pass a line has. The first pass has tested that rows stand under tables, with as many entries as
@@ -72,10 +73,6 @@ line_kind vars table _ = None
 
 abbrev pub fault_at : ℕ → Option TextKind → Option TextFault
 fault_at line kind = option_map (At line) kind
-
-abbrev pub fault_or : Option TextKind → ℕ → Option TextFault → Option TextFault
-fault_or None line later = later
-fault_or (Some kind) line later = Some (At line kind)
 
 -- a line without the form of its directive says nothing
 abbrev pub kind_said : Scope → Option OpenTable → Option Form → Option TextKind

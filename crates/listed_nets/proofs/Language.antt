@@ -1,7 +1,6 @@
 use Rattle.std.proofs.Common.{◌≡◌, ◌↔◌, ℕ, ◌<◌, ◌==◌, ◌&&◌, IsTrue, Contains, length, refl, sym, subst, arith}
 use Rattle.std.specs.List.{AllByRecursion}
-use Rattle.std.proofs.lemmas.Bool.{and_parts}
-use borrow.Author.Tests.{eqb-true}
+use Rattle.std.proofs.lemmas.Bool.{and_parts, eqb-true}
 use Rattle.net_model.specs.Words.{Letter, Word, IsLetter}
 use Rattle.net_model.specs.Listings.{Row, Listing, IsListing, steps, allows, accepts, ListingWords}
 use Rattle.net_model.specs.Nets.{Net}

@@ -1,8 +1,7 @@
 use Rattle.std.proofs.Common.{◌≡◌, ℕ, ◌+◌, ◌<◌, ◌||◌, Bool, true, false, List, length, slice_set, nat_eq, sym, ap, ◌∙◌, inl, inr, arith}
-use Rattle.std.proofs.lemmas.Bool.{false≢true, eq-eqb, or_cases, or_right, cases_eq}
+use Rattle.std.proofs.lemmas.Bool.{false≢true, eq-eqb, or_cases, or_right, cases_eq, eqb-true}
 use Rattle.std.proofs.lemmas.Bool.Decides.{eqb_tells}
 use Rattle.std.proofs.lemmas.List.{length-set, get_or-set_same, get_or-set_other}
-use borrow.Author.Tests.{eqb-true}
 use Rattle.net_model.specs.Words.{Letter}
 use Rattle.net_model.specs.Nets.{Net}
 use Rattle.net_conditions.specs.Marks.{is_marked}

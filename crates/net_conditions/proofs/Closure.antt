@@ -8,7 +8,7 @@ use Rattle.net_model.specs.Nets.{Net, Table}
 use Rattle.net_model.specs.Conditions.{latch_outputs, Varies, varies_as_input, varies_as_latch, varies_by_table}
 use Rattle.net_conditions.specs.Marks.{is_marked, IsSetOf, Adds, GrowsIf, count_left}
 use Rattle.net_conditions.specs.Rounds.{outputs_by, AreVarying, IsClosed}
-use Rattle.net_conditions.proofs.Listed.{Decides-member}
+use Rattle.net_model.proofs.Computed.{Decides-member}
 use Rattle.net_conditions.proofs.Marking.{Adds-none, marks_alone}
 
 -- Rounds over the tables that add what varies by them.

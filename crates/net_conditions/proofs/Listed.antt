@@ -4,19 +4,9 @@ use Rattle.std.proofs.lemmas.Bool.{eq-eqb, false≢true}
 use Rattle.std.proofs.lemmas.Bool.Decides.{eqb_tells, Decides-at, Decides-like, Decides-not, Decides-by_and}
 use Rattle.std.proofs.lemmas.List.{get_or-map, length-map, map_push, take_all, take_more}
 use Rattle.std.proofs.lemmas.List.Elements.{All-map, All-push, All-contains}
-use Rattle.std.proofs.lemmas.List.Folds.{list_any_at}
 use Rattle.std.proofs.lemmas.List.Sums.{sum_by-cons, sum_by_push, sum_by-take-le}
-use Rattle.std.proofs.lemmas.Map.Views.{Contains-from_any}
-use borrow.Author.Tests.{eqb-true}
 
 -- Lists of signals, by their tests and by how often a signal stands there.
-
--- a search finds what the list contains
-pub Decides-member : (xs : List ℕ) (x : ℕ) → Decides (list_any (nat_eq x) xs) (Contains xs x)
-Decides-member xs x = (
-  Contains-from_any eqb-true x xs,
-  λ at. list_any_at (nat_eq x) xs at.0 x at.1 (ap (nat_eq x) at.2 ∙ eq-eqb x x refl),
-)
 
 -- a test of each element
 pub Decides-each : {X : Type 0} (p : X → Bool) (P : X → Type 0) → ((x : X) → Decides (p x) (P x)) → (xs : List X) → Decides (list_all p xs) (All P xs)

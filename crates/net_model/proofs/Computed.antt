@@ -14,10 +14,11 @@ use Rattle.net_model.specs.NetLanguages.{is_acc}
 use Rattle.net_model.specs.Nets.{Table, Net}
 use Rattle.net_model.specs.Spellings.{domain_at}
 
-member_decided : (states : List ℕ) (signal : ℕ) → Decides (list_any (nat_eq signal) states) (Contains states signal)
-member_decided states signal = (
-  Contains-from_any eqb-true signal states,
-  λ at. list_any_at (nat_eq signal) states at.0 signal at.1 (ap (nat_eq signal) at.2 ∙ eq-eqb signal signal refl),
+-- a search finds what the list contains
+pub Decides-member : (xs : List ℕ) (x : ℕ) → Decides (list_any (nat_eq x) xs) (Contains xs x)
+Decides-member xs x = (
+  Contains-from_any eqb-true x xs,
+  λ at. list_any_at (nat_eq x) xs at.0 x at.1 (ap (nat_eq x) at.2 ∙ eq-eqb x x refl),
 )
 
 only_decided : (outs : List ℕ) (signal : ℕ) → Decides (is_only outs signal) (outs ≡ signal ∷ [])
@@ -29,7 +30,7 @@ computes_decided : (states : List ℕ) (signal : ℕ) (table : Table) → Decide
 computes_decided states signal table =
     let reads : List ℕ → Bool = list_all (λ input. list_any (nat_eq input) states) in
     Decides-and (is_only table.outs signal) (reads table.ins) (only_decided table.outs signal)
-    (Decides-by_and (λ input. list_any (nat_eq input) states) (Contains states) reads (member_decided states) refl (λ _ _. refl) table.ins)
+    (Decides-by_and (λ input. list_any (nat_eq input) states) (Contains states) reads (Decides-member states) refl (λ _ _. refl) table.ins)
 
 -- of a signal with two values
 pub acceptance_decided : (net : Net) (signal : ℕ) → length (domain_at net.names signal) ≡ 2

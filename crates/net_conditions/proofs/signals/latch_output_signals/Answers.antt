@@ -4,7 +4,7 @@ use Rattle.net_model.specs.Conditions.{latch_outputs}
 use Rattle.net_model.specs.Nets.{net_of}
 use Rattle.net_conditions.specs.Marks.{IsSetOf}
 use Rattle.net_conditions.proofs.Named.{are_below, latch_outputs_known}
-use Rattle.net_conditions.proofs.Listed.{Decides-member}
+use Rattle.net_model.proofs.Computed.{Decides-member}
 use Rattle.net_conditions.proofs.Marking.{IsSetOf-alone}
 use Rattle.net_conditions.proofs.signals.latch_output_signals.Goals as goal
 
