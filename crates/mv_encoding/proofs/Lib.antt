@@ -1,0 +1,5 @@
+pub mod Spelling
+pub mod Ranges
+pub mod Letters
+pub mod Places
+pub mod Chains
