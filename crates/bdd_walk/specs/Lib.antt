@@ -1,0 +1,5 @@
+pub mod Cuts
+pub mod Least
+pub mod Lending
+pub mod Paths
+pub mod Walk
