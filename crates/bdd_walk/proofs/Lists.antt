@@ -4,14 +4,9 @@ use Rattle.std.specs.List.{All, AllPairs, Any}
 use Rattle.std.specs.List.Sorted.{IsStrictlyIncreasing}
 use Rattle.std.proofs.lemmas.List.{get_or_append_left, get_or-append-add, get_or-map, length-map}
 use Rattle.std.proofs.lemmas.List.Elements.{All-append, All-head, All-tail, All-map}
+use Rattle.std.proofs.lemmas.List.Kept.{AllPairs-cons}
 
 module _ {X : Type 0} (R : X → X → Type 0) where
-  pub AllPairs-cons : (x : X) (xs : List X) → All (R x) xs → AllPairs R xs → AllPairs R (x ∷ xs)
-  AllPairs-cons x xs first rest zero zero d less within = absurd (omega arith)
-  AllPairs-cons x xs first rest zero (suc j) d less within = first j d (omega arith)
-  AllPairs-cons x xs first rest (suc i) zero d less within = absurd (omega arith)
-  AllPairs-cons x xs first rest (suc i) (suc j) d less within = rest i j d (omega arith) (omega arith)
-
   pub AllPairs-head : (x : X) (xs : List X) → AllPairs R (x ∷ xs) → All (R x) xs
   AllPairs-head x xs pairs k d within = pairs 0 (suc k) d (omega arith) (omega arith)
 
@@ -21,7 +16,7 @@ module _ {X : Type 0} (R : X → X → Type 0) where
   pub AllPairs-append : (xs ys : List X) → AllPairs R xs → AllPairs R ys → All (λ x. All (R x) ys) xs → AllPairs R (xs ++ ys)
   AllPairs-append [] ys first second across = second
   AllPairs-append (x ∷ xs) ys first second across =
-      AllPairs-cons x (xs ++ ys)
+      AllPairs-cons R x (xs ++ ys)
       (All-append (R x) xs ys (AllPairs-head x xs first) (All-head (λ x. All (R x) ys) x xs across))
       (AllPairs-append xs ys (AllPairs-tail x xs first) second (All-tail (λ x. All (R x) ys) x xs across))
 
