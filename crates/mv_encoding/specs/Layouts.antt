@@ -4,9 +4,8 @@ use Rattle.std.specs.Prelude.{◌≡◌, ◌+◌, ◌^◌, ◌<◌, ◌≤◌, �
 use Rattle.std.specs.List.{range_with_len}
 use Rattle.name_table.specs.CodeBits.{code_bits}
 use Rattle.name_table.specs.ScopeVars.{variable_at}
-use Rattle.net_model.specs.Words.{Variable, Scope, Letter}
+use Rattle.net_model.specs.Words.{Variable, Scope}
 use Rattle.node_table.specs.Table.{Bits, Table}
-use Rattle.bdd_ops.specs.Meaning.{StandsFor}
 use Rattle.mv_encoding.specs.declared.fault.CodeFault.{CodeFault}
 use Rattle.mv_encoding.specs.declared.fault.CodeFault.TheVariants as faults
 
@@ -59,11 +58,6 @@ levels_of layout = range_with_len layout.first (bits_in layout.scope)
 -- the levels are there
 abbrev pub IsLaid : Layout → Table → Type 0
 IsLaid layout t = layout.first + bits_in layout.scope ≤ t.levels
-
--- the ref stands for the set of these letters: it has the value 1 exactly at their codes, so that what is no letter's code
--- is in no set
-abbrev pub StandsForSet : Table → Layout → ℕ → (Letter → Bool) → Type 0
-StandsForSet t layout r holds = StandsFor t r (λ bits. is_letter layout.scope (numbers_of layout bits) && holds (numbers_of layout bits))
 
 -- a letter over the scope has too many bits, and this is their number
 abbrev pub IsRefused : ℕ → CodeFault → Type 0
