@@ -4,8 +4,6 @@
 mod automaton;
 mod fields;
 mod lines;
-#[cfg(test)]
-mod tests;
 mod write;
 
 pub use automaton::as_auto;

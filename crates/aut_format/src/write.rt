@@ -1,11 +1,11 @@
 //! Prints a listed automaton.
 
-ghost use Rattle.std.specs.Prelude.{◌≡◌, ◌≤◌, ◌↔◌, ℕ, codes, IfOk, OnOk, OnErr};
+ghost use Rattle.std.specs.Prelude.{◌≡◌, ◌≤◌, ◌↔◌, ◌⊎◌, ℕ, codes, IfOk, OnOk, OnErr};
 ghost use Rattle.io_core.specs.Causes.{Rose};
 ghost use Rattle.io_core.specs.Gained.{gained, GainsFrontOf};
 ghost use Rattle.net_model.specs.Words.{Word};
 ghost use Rattle.net_model.specs.Listings.{ListingWords, listing_of};
-ghost use Rattle.net_model.specs.NetLanguages.{Means};
+ghost use Rattle.net_model.specs.NetLanguages.{Means, StandsForAutomaton};
 ghost use Rattle.net_model.specs.Printed.{IsPrintable, printed_text};
 
 use crate::lines::{
@@ -25,12 +25,16 @@ pub fn write_listed<O: Sink>(alloc: Global, auto: &Listed, out: &mut O) -> Resul
     ensures refused { OnErr result (GainsFrontOf (O.contents out.old) (O.contents out.new)
         (printed_text (codes "solution") (listing_of auto.now))) }
 
-    // The text, read as every file is, means the automaton's language.
+    // The text stands for an automaton over the same letters. Read as every file is, it means the automaton's language.
+    ensures automaton { StandsForAutomaton (printed_text (codes "solution") (listing_of auto.now)) (listing_of auto.now).vars }
     ensures meaning { (word : Word)
         → Means (printed_text (codes "solution") (listing_of auto.now)) (listing_of auto.now).vars word
         ↔ ListingWords (listing_of auto.now) word }
     ensures later { O.faults out.old ≤ O.faults out.new }
+    ensures more { O.wants out.old ≤ O.wants out.new }
     ensures failed { result ≡ Err WriteFault.Failed → Rose (O.faults out.old) (O.faults out.new) }
+    ensures memory { result ≡ Err WriteFault.Memory
+        → (O.contents out.new ≡ O.contents out.old) ⊎ Rose (O.wants out.old) (O.wants out.new) }
 {
     let Ok(text) = solution_text(alloc, auto) else {
         return Err(WriteFault::Memory);

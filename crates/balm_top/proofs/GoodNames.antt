@@ -14,8 +14,8 @@ use Rattle.net_model.specs.Written.{IsTextVariable}
 use Rattle.net_model.specs.Topologies.{is_named, variable_named, joint_scope}
 use Rattle.net_model.specs.Problems.{NetFile, NameRefusal, UnknownName, RepeatedName, InBoth, ReservedName, or_else, refused_if, name_refusal, list_refusal, first_refusal, file_refusal, names_known, is_reserved}
 use Rattle.net_model.specs.declared.class.Mode.TheVariants.{Sync}
-use Rattle.net_model.specs.Building.{names_refusal}
-use Rattle.net_model.proofs.ScopesGood.{names_good}
+use Rattle.net_problem.specs.Building.{names_refusal}
+use Rattle.net_problem.proofs.ScopesGood.{names_good}
 use Rattle.balm_top.specs.Work.{IsFreeName}
 
 -- Names that make a problem.

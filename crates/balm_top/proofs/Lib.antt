@@ -1,9 +1,5 @@
 pub mod Answered
-pub mod Fronts
 pub mod GoodNames
-pub mod Limited
-pub mod NameLists
 pub mod Reading
-pub mod Seven
 pub mod Stopped
 pub mod Worked

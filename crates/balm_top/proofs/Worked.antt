@@ -15,7 +15,8 @@ use Rattle.listed_solve.specs.Problem.{IsTopologyOver}
 use Rattle.listed_solve.specs.declared.solve.Solution.{Solution}
 use Rattle.net_model.specs.Topologies.{joint_scope, variable_named}
 use Rattle.net_model.specs.Problems.{NetFile}
-use Rattle.balm_top.specs.Jobs.{Job, topology_of}
+use Rattle.job_words.specs.Jobs.{Job}
+use Rattle.balm_top.specs.Refusals.{topology_of}
 use Rattle.balm_top.specs.Stops.{IsSolved}
 use Rattle.balm_top.specs.Work.{IsFreeName, IsTopologyOf}
 

@@ -5,15 +5,15 @@ use Rattle.io_core.specs.Gained.{gained, GainsFrontOf}
 use Rattle.net_model.specs.Words.{Word, Language}
 use Rattle.net_model.specs.Equation.{Topology, IsSafe, InLargest, IsLargestSolution}
 use Rattle.net_model.specs.Nets.{Net}
-use Rattle.net_model.specs.NetLanguages.{letters_of, NetWords, Means}
+use Rattle.net_model.specs.NetLanguages.{letters_of, NetWords, Means, StandsForAutomaton}
 use Rattle.net_model.specs.declared.class.Class.{Class}
 use Rattle.net_model.specs.declared.class.Class.TheVariants.{All}
-use Rattle.balm_top.specs.Jobs.{Job, IsJob, topology_of}
-use Rattle.balm_top.specs.Lines.{unreadable_line, write_line}
-use Rattle.balm_top.specs.Refusals.{Refusal, status_of, line_of, Refuses, IsReached, IsProblem}
-use Rattle.balm_top.specs.Statuses.{IsFinished}
-use Rattle.balm_top.specs.declared.status.Status.{Status}
-use Rattle.balm_top.specs.declared.status.Status.TheVariants.{Done, Negative, Usage, Refused, Limit, NodeLimit, ReadFault, WriteFault, Memory}
+use Rattle.job_words.specs.Jobs.{Job, IsJob, HasNoJob}
+use Rattle.fault_lines.specs.Lines.{unreadable_line, write_line, memory_line}
+use Rattle.fault_lines.specs.Statuses.{IsFinished}
+use Rattle.fault_lines.specs.declared.status.Status.{Status}
+use Rattle.fault_lines.specs.declared.status.Status.TheVariants.{Done, Negative, Usage, Refused, Limit, NodeLimit, ReadFault, WriteFault, Memory}
+use Rattle.balm_top.specs.Refusals.{Refusal, topology_of, status_of, line_of, Refuses, IsReached, IsProblem}
 
 -- the text, read by its format, has exactly the words of the largest solution of the class
 abbrev pub IsLargestText : Class → Topology → Language → Language → List ℕ → Type 0
@@ -32,13 +32,15 @@ IsVerdict ReadFault L = ⊥
 IsVerdict WriteFault L = ⊥
 IsVerdict Memory L = ⊥
 
--- The answer to a job of `solve`: nothing is refused; the text means exactly the largest solution; composed with F it
--- stays inside S, and each word of each automaton that is a solution is a word of it; and the status is the verdict.
+-- The answer to a job of `solve`: nothing is refused; the text stands for an automaton over X's scope, which means exactly
+-- the largest solution; composed with F it stays inside S, and each word of each automaton that is a solution is a word of
+-- it; and the status is the verdict.
 pub record IsAnswer (words : List (List ℕ)) (files : Files) (status : Status) (text : List ℕ) : Type 0 where
   pub job : Job
   pub f : Net
   pub s : Net
   pub problem : IsProblem words files job f s
+  pub automaton : StandsForAutomaton text (topology_of job (letters_of f) (letters_of s)).x
   pub exact : IsLargestText All (topology_of job (letters_of f) (letters_of s)) (NetWords f) (NetWords s) text
   pub solution : IsLargestSolution All (topology_of job (letters_of f) (letters_of s)) (NetWords f) (NetWords s) (Means text (topology_of job (letters_of f) (letters_of s)).x)
   pub verdict : IsVerdict status (Means text (topology_of job (letters_of f) (letters_of s)).x)
@@ -51,10 +53,16 @@ SolveIsExact words holds old new status =
     → holds ≡ Some files
     → (text : List ℕ) × (new ≡ gained old text) × IsAnswer words files status text
 
--- err has gained the line, or a front of it where a count of its own rose
-abbrev pub IsTold : Option (List ℕ) → Option (List ℕ) → ℕ → ℕ → ℕ → ℕ → List ℕ → Type 0
-IsTold old new faults faults' wants wants' line =
-    (new ≡ gained old line) ⊎ (GainsFrontOf old new line × (Rose faults faults' ⊎ Rose wants wants'))
+-- No step before the output refuses: the words name a job, and where the shelf tells what it holds, its files make a
+-- problem.
+pub record ReachesOutput (words : List (List ℕ)) (holds : Option Files) : Type 0 where
+  pub job : Job
+  pub job_is : IsJob words job
+  pub problem : (files : Files) → holds ≡ Some files → (f : Net) × (s : Net) × IsProblem words files job f s
+
+-- Words without a job are told as such, or memory ran out over them, whatever the shelf tells.
+abbrev pub UsageRightly : List (List ℕ) → Status → Type 0
+UsageRightly words status = HasNoJob words → (status ≡ Usage) ⊎ (status ≡ Memory)
 
 -- a status of a refusal
 abbrev pub IsRefused : Status → Type 0
@@ -82,10 +90,16 @@ ReadFaultRightly words holds faults faults' Told status =
     × Told (unreadable_line name)
     × ((files : Files) → holds ≡ Some files → IsReached files job name)
 
--- Where the answer cannot be written, out's count of faults rose, and the line was told.
-abbrev pub WriteFaultRightly : ℕ → ℕ → (List ℕ → Type 0) → Status → Type 0
-WriteFaultRightly faults faults' Told status =
-    status ≡ WriteFault → Rose faults faults' × Told write_line
+-- Where the answer cannot be written, no step before refuses, out's count of faults rose, and the line was told.
+abbrev pub WriteFaultRightly : List (List ℕ) → Option Files → ℕ → ℕ → (List ℕ → Type 0) → Status → Type 0
+WriteFaultRightly words holds faults faults' Told status =
+    status ≡ WriteFault → ReachesOutput words holds × Rose faults faults' × Told write_line
+
+-- Where memory ran out, the line was told, and out is as before, or no step before the output refuses and out's count of
+-- wants rose.
+abbrev pub MemoryRightly : List (List ℕ) → Option Files → Option (List ℕ) → Option (List ℕ) → ℕ → ℕ → (List ℕ → Type 0) → Status → Type 0
+MemoryRightly words holds old new wants wants' Told status =
+    status ≡ Memory → Told memory_line × ((new ≡ old) ⊎ (ReachesOutput words holds × Rose wants wants'))
 
 -- out is as before, but where an answer was begun
 abbrev pub KeepsOut : Option (List ℕ) → Option (List ℕ) → Status → Type 0

@@ -1,39 +1,28 @@
-use Rattle.std.specs.Prelude.{◌≡◌, ◌≤◌, ◌⊎◌, ℕ, List, length, Err, Some, None}
+use Rattle.std.specs.Prelude.{◌≡◌, ◌⊎◌, ℕ, List, Some, None}
 use Rattle.io_core.specs.Files.{Files, bytes_under}
+use Rattle.net_model.specs.Words.{Scope}
+use Rattle.net_model.specs.Equation.{Topology}
 use Rattle.net_model.specs.Nets.{Net}
-use Rattle.net_model.specs.NetTexts.{text_in, StandsForNet}
 use Rattle.net_model.specs.NetLanguages.{letters_of}
-use Rattle.net_model.specs.Topologies.{joint_scope}
+use Rattle.net_model.specs.Topologies.{joint_scope, sync_topology}
 use Rattle.net_model.specs.Problems.{NetFile, NameRefusal, first_refusal}
 use Rattle.net_model.specs.declared.class.Mode.TheVariants.{Sync}
-use Rattle.net_model.specs.declared.text_fault.TextFault.TheVariants.{At}
 use Rattle.net_model.specs.declared.text_fault.TextKind.{TextKind}
 use Rattle.net_model.specs.declared.text_fault.TextKind.TheVariants as kinds
-use Rattle.blifmv_names.specs.Limits.{IsWithinLimits}
-use Rattle.blifmv_reader.specs.Told.{FindsNetFault}
 use Rattle.listed_nets.specs.Small.{IsSmall}
-use Rattle.balm_top.specs.Jobs.{Job, IsJob, HasNoJob}
-use Rattle.balm_top.specs.Lines.{usage_line, long_line, fault_line, names_line}
-use Rattle.balm_top.specs.declared.files.TheConstants.{MAX_BYTES}
-use Rattle.balm_top.specs.declared.status.Status.{Status}
-use Rattle.balm_top.specs.declared.status.Status.TheVariants as status
+use Rattle.job_words.specs.Jobs.{Job, IsJob, HasNoJob}
+use Rattle.fault_lines.specs.Lines.{usage_line, long_line, fault_line, names_line}
+use Rattle.fault_lines.specs.Stops.{fault_status}
+use Rattle.fault_lines.specs.declared.status.Status.{Status}
+use Rattle.fault_lines.specs.declared.status.Status.TheVariants as status
+use Rattle.job_files.specs.Reads.{IsWithin, IsReadAs, HasFault}
 
 -- The files and the names of a job are refused step by step: F's file, S's file, the names, the size. Each refusal says
 -- that no step before it refuses, so one refusal at most is possible.
 
--- no longer than a file may be
-abbrev pub IsWithin : List ℕ → Type 0
-IsWithin bytes = length bytes ≤ MAX_BYTES
-
--- the file of this name is read, as this network: it isn't too long, stands for the network, and passes no limit
-pub record IsReadAs (files : Files) (name : List ℕ) (net : Net) : Type 0 where
-  pub within : IsWithin (bytes_under files name)
-  pub stands : StandsForNet (bytes_under files name) net
-  pub limits : IsWithinLimits (text_in (bytes_under files name))
-
--- the first fault of a text, by the order of the passes over it
-abbrev pub HasFault : List ℕ → ℕ → TextKind → Type 0
-HasFault bytes line kind = FindsNetFault {T = Net} (Err (At line kind)) bytes
+-- the equation of a job, for files with these letters
+abbrev pub topology_of : Job → Scope → Scope → Topology
+topology_of job f s = sync_topology f s job.ins job.outs
 
 -- the step of this file is reached: it is F's, or it is S's and F's is read
 abbrev pub IsReached : Files → Job → List ℕ → Type 0
@@ -69,11 +58,6 @@ pub data Refusal : Type 0 where
   Faulty : (name : List ℕ) → (line : ℕ) → (kind : TextKind) → Refusal
   BadNames : (refusal : NameRefusal) → Refusal
   TooBig : (name : List ℕ) → Refusal
-
--- a limit that is passed has a status of its own
-abbrev pub fault_status : TextKind → Status
-fault_status (kinds.Limit which) = status.Limit
-fault_status _ = status.Refused
 
 abbrev pub status_of : Refusal → Status
 status_of NoJob = status.Usage

@@ -2,17 +2,9 @@
 //! prints. What it promises stands in the clauses of `run`.
 #![tactic(auto)]
 
-mod args;
-mod files;
 mod problem;
-mod request;
-mod status;
-mod stop;
 mod top_call;
 
-pub use args::Args;
-pub use status::Status;
+pub use fault_lines::Status;
+pub use job_words::Args;
 pub use top_call::run;
-
-#[cfg(test)]
-mod tests;

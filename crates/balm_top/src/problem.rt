@@ -12,19 +12,20 @@ ghost use Rattle.net_model.specs.Printed.{IsPrintable};
 ghost use Rattle.net_model.specs.SoundNets.{IsSound};
 ghost use Rattle.net_model.specs.Written.{IsTextVariable};
 ghost use Rattle.listed_nets.specs.Small.{IsSmall};
-ghost use Rattle.balm_top.specs.Jobs.{job_of, topology_of};
+ghost use Rattle.job_words.specs.Jobs.{job_of};
+ghost use Rattle.balm_top.specs.Refusals.{topology_of};
 ghost use Rattle.balm_top.specs.Stops.{StopsRightly, SolvesRightly, StopsWork, IsWorkable, IsSolved};
 ghost use Rattle.balm_top.specs.Work.{IsFreeName, IsTopologyOf};
 
-use crate::args::Args;
-use crate::files::read_file;
-use crate::request::{Request, request_of};
-use crate::stop::Stop;
+use fault_lines::Stop;
 use io_core::Shelf;
+use job_files::read_file;
+use job_words::{Args, Request, request_of};
 use listed_nets::{is_small, listed_of, listed_vars};
 use listed_solve::{Solution, solve_listed};
 use name_table::Scope;
-use net_model::{File, Mode, NameList, Net, Problem};
+use net_model::{File, Mode, NameList, Net};
+use net_problem::Problem;
 use std::alloc::{AllocError, Global};
 
 /// Reads the job and its files, and solves it.

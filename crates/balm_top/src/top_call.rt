@@ -1,20 +1,19 @@
 //! The top call.
 
 ghost use Rattle.std.specs.Prelude.{◌≡◌};
-ghost use Rattle.balm_top.specs.Answers.{SolveIsExact, IsTold, RefusedRightly, ReadFaultRightly, WriteFaultRightly, KeepsOut, GainsFrontOfAnswer};
-ghost use Rattle.balm_top.specs.Jobs.{HasNoJob};
-ghost use Rattle.balm_top.specs.Lines.{memory_line};
-ghost use Rattle.balm_top.specs.Statuses.{IsFinished};
-ghost use Rattle.balm_top.specs.Stops.{AnswersRightly, MeansSolution};
 ghost use Rattle.net_model.specs.Listings.{listing_of};
 ghost use Rattle.net_model.specs.Printed.{IsPrintable};
+ghost use Rattle.job_words.specs.Jobs.{HasNoJob};
+ghost use Rattle.fault_lines.specs.Statuses.{IsFinished};
+ghost use Rattle.fault_lines.specs.Told.{IsTold};
+ghost use Rattle.balm_top.specs.Answers.{SolveIsExact, ReachesOutput, UsageRightly, RefusedRightly, ReadFaultRightly, WriteFaultRightly, MemoryRightly, KeepsOut, GainsFrontOfAnswer};
+ghost use Rattle.balm_top.specs.Stops.{AnswersRightly, MeansSolution};
 
-use crate::args::Args;
 use crate::problem::solution_of;
-use crate::status::Status;
-use crate::stop::tell;
 use aut_format::write_listed;
+use fault_lines::{Status, tell};
 use io_core::{Shelf, Sink, WriteFault};
+use job_words::Args;
 use listed_solve::Solution;
 use std::alloc::Global;
 
@@ -30,20 +29,24 @@ pub fn run<H: Shelf, O: Sink, E: Sink>(
     // What is printed means exactly the largest solution.
     ensures exact { SolveIsExact words.now (H.holds shelf.old) (O.contents out.old) (O.contents out.new) result }
 
-    // Every other status has its cause, and its line was told.
+    // It comes only where no step before refuses. Words without a job are told as such.
+    ensures reached { IsFinished result → ReachesOutput words.now (H.holds shelf.old) }
     ensures usage { result ≡ Status.Usage → HasNoJob words.now }
+    ensures no_job { UsageRightly words.now result }
+
+    // Every other status has its cause, and its line was told.
     ensures refused { RefusedRightly words.now (H.holds shelf.old)
         (IsTold (E.contents err.old) (E.contents err.new) (E.faults err.old) (E.faults err.new) (E.wants err.old) (E.wants err.new))
         result }
     ensures read_fault { ReadFaultRightly words.now (H.holds shelf.old) (H.faults shelf.old) (H.faults shelf.new)
         (IsTold (E.contents err.old) (E.contents err.new) (E.faults err.old) (E.faults err.new) (E.wants err.old) (E.wants err.new))
         result }
-    ensures write_fault { WriteFaultRightly (O.faults out.old) (O.faults out.new)
+    ensures write_fault { WriteFaultRightly words.now (H.holds shelf.old) (O.faults out.old) (O.faults out.new)
         (IsTold (E.contents err.old) (E.contents err.new) (E.faults err.old) (E.faults err.new) (E.wants err.old) (E.wants err.new))
         result }
-    ensures memory { result ≡ Status.Memory
-        → IsTold (E.contents err.old) (E.contents err.new) (E.faults err.old) (E.faults err.new) (E.wants err.old) (E.wants err.new)
-        memory_line }
+    ensures memory { MemoryRightly words.now (H.holds shelf.old) (O.contents out.old) (O.contents out.new) (O.wants out.old) (O.wants out.new)
+        (IsTold (E.contents err.old) (E.contents err.new) (E.faults err.old) (E.faults err.new) (E.wants err.old) (E.wants err.new))
+        result }
     ensures no_node_limit { result ≡ Status.NodeLimit → ⊥ }
 
     // What out and err have gained.
@@ -65,7 +68,7 @@ pub fn run<H: Shelf, O: Sink, E: Sink>(
 fn answer<O: Sink, E: Sink>(alloc: Global, solution: &Solution, out: &mut O, err: &mut E) -> Status
     requires { IsPrintable (listing_of solution.now.auto) }
     ensures meaning { MeansSolution solution.now }
-    ensures answers { AnswersRightly solution.now (O.contents out.old) (O.contents out.new) (O.faults out.old) (O.faults out.new)
+    ensures answers { AnswersRightly solution.now (O.contents out.old) (O.contents out.new) (O.faults out.old) (O.faults out.new) (O.wants out.old) (O.wants out.new)
         (IsTold (E.contents err.old) (E.contents err.new) (E.faults err.old) (E.faults err.new) (E.wants err.old) (E.wants err.new))
         (E.contents err.new ≡ E.contents err.old) result }
 {

@@ -101,28 +101,30 @@ module _ (levels : List ℕ) where
     pub kept-holds-high : is_in levels level ≡ false → (bits : Bits) → bits level ≡ true → HasSome levels meaning bits → HasSome levels high bits
     kept-holds-high out bits at some = (some.0, some.1, sym (high_is some.0 (some.1 level out ∙ at)) ∙ some.2)
 
-    -- a node over both answers
-    pub kept-step : is_in levels level ≡ false → (t new : Table) (lo hi r p q : ℕ) → HidesBelow t p lo levels low → HidesBelow t q hi levels high → Makes t new level lo hi r → HidesBelow new level r levels meaning
-    kept-step out t new lo hi r p q zeroes ones made = record {
-      valid = made.valid;
-      top = made.top;
-      found = λ bits is. found bits (sym (made.value bits) ∙ is);
-      holds = λ bits some. made.value bits ∙ holds bits some;
-    }
-      where
-        found : (bits : Bits) → (if bits level then value_at t hi bits else value_at t lo bits) ≡ true → HasSome levels meaning bits
-        found bits = by (bits level) refl
-          where
-            by : (b : Bool) → bits level ≡ b → (if b then value_at t hi bits else value_at t lo bits) ≡ true → HasSome levels meaning bits
-            by false at is = kept-found-low out bits at (zeroes.found bits is)
-            by true at is = kept-found-high out bits at (ones.found bits is)
+    -- what a node over both answers has
+    module _ (out : is_in levels level ≡ false) (t : Table) (lo hi p q : ℕ) (zeroes : HidesBelow t p lo levels low) (ones : HidesBelow t q hi levels high) where
+      pub kept-found : (bits : Bits) → (if bits level then value_at t hi bits else value_at t lo bits) ≡ true → HasSome levels meaning bits
+      kept-found bits = by (bits level) refl
+        where
+          by : (b : Bool) → bits level ≡ b → (if b then value_at t hi bits else value_at t lo bits) ≡ true → HasSome levels meaning bits
+          by false at is = kept-found-low out bits at (zeroes.found bits is)
+          by true at is = kept-found-high out bits at (ones.found bits is)
 
-        holds : (bits : Bits) → HasSome levels meaning bits → (if bits level then value_at t hi bits else value_at t lo bits) ≡ true
-        holds bits some = by (bits level) refl
-          where
-            by : (b : Bool) → bits level ≡ b → (if b then value_at t hi bits else value_at t lo bits) ≡ true
-            by false at = zeroes.holds bits (kept-holds-low out bits at some)
-            by true at = ones.holds bits (kept-holds-high out bits at some)
+      pub kept-holds : (bits : Bits) → HasSome levels meaning bits → (if bits level then value_at t hi bits else value_at t lo bits) ≡ true
+      kept-holds bits some = by (bits level) refl
+        where
+          by : (b : Bool) → bits level ≡ b → (if b then value_at t hi bits else value_at t lo bits) ≡ true
+          by false at = zeroes.holds bits (kept-holds-low out bits at some)
+          by true at = ones.holds bits (kept-holds-high out bits at some)
+
+      -- the node itself
+      pub kept-step : (new : Table) (r : ℕ) → Makes t new level lo hi r → HidesBelow new level r levels meaning
+      kept-step new r made = record {
+        valid = made.valid;
+        top = made.top;
+        found = λ bits is. kept-found bits (sym (made.value bits) ∙ is);
+        holds = λ bits some. made.value bits ∙ kept-holds bits some;
+      }
 
     -- the level goes
     module _ (member : is_in levels level ≡ true) (low_free : (bits : Bits) (b : Bool) → low (changed bits level b) ≡ low bits) (high_free : (bits : Bits) (b : Bool) → high (changed bits level b) ≡ high bits) where
@@ -152,29 +154,37 @@ module _ (levels : List ℕ) where
           by false at = inl (some.0, some.1, sym (low_is some.0 at) ∙ some.2)
           by true at = inr (some.0, some.1, sym (high_is some.0 at) ∙ some.2)
 
-      -- the one answer, or the other
-      pub gone-step : (t new : Table) (lo hi one r p q floor : ℕ) → HidesBelow t p lo levels low → HidesBelow t q hi levels high → one ≡ 1 → level ≤ floor → StandsBelow new floor r (ite_value t (record { f = lo; g = one; h = hi })) → HidesBelow new level r levels meaning
-      gone-step t new lo hi one r p q floor zeroes ones one_is under either = record {
-        valid = either.valid;
-        top = omega (arith, either.top, under);
-        found = λ bits is. found bits (value_at t lo bits) refl (sym (either.value bits) ∙ is);
-        holds = λ bits some. either.value bits ∙ holds bits (gone-holds bits some);
-      }
-        where
-          one_value : (bits : Bits) → value_at t one bits ≡ true
-          one_value bits = rw one_is (value-one t.nodes bits)
+      -- what the disjunction of both answers has
+      module _ (t : Table) (lo hi one p q : ℕ) (zeroes : HidesBelow t p lo levels low) (ones : HidesBelow t q hi levels high) (one_is : one ≡ 1) where
+        one_value : (bits : Bits) → value_at t one bits ≡ true
+        one_value bits = rw one_is (value-one t.nodes bits)
 
-          found : (bits : Bits) (b : Bool) → value_at t lo bits ≡ b → (if value_at t lo bits then value_at t one bits else value_at t hi bits) ≡ true → HasSome levels meaning bits
-          found bits true at is = gone-found-low bits (zeroes.found bits at)
-          found bits false at is = gone-found-high bits (ones.found bits (sym (ap (λ b. if b then value_at t one bits else value_at t hi bits) at) ∙ is))
+        pub gone-found : (bits : Bits) → ite_value t (record { f = lo; g = one; h = hi }) bits ≡ true → HasSome levels meaning bits
+        gone-found bits = by (value_at t lo bits) refl
+          where
+            by : (b : Bool) → value_at t lo bits ≡ b → (if value_at t lo bits then value_at t one bits else value_at t hi bits) ≡ true → HasSome levels meaning bits
+            by true at is = gone-found-low bits (zeroes.found bits at)
+            by false at is = gone-found-high bits (ones.found bits (sym (ap (λ b. if b then value_at t one bits else value_at t hi bits) at) ∙ is))
 
-          holds : (bits : Bits) → HasSome levels low bits ⊎ HasSome levels high bits → (if value_at t lo bits then value_at t one bits else value_at t hi bits) ≡ true
-          holds bits (inl some) = ap (λ b. if b then value_at t one bits else value_at t hi bits) (zeroes.holds bits some) ∙ one_value bits
-          holds bits (inr some) = by (value_at t lo bits)
-            where
-              by : (b : Bool) → (if b then value_at t one bits else value_at t hi bits) ≡ true
-              by true = one_value bits
-              by false = ones.holds bits some
+        either-holds : (bits : Bits) → HasSome levels low bits ⊎ HasSome levels high bits → (if value_at t lo bits then value_at t one bits else value_at t hi bits) ≡ true
+        either-holds bits (inl some) = ap (λ b. if b then value_at t one bits else value_at t hi bits) (zeroes.holds bits some) ∙ one_value bits
+        either-holds bits (inr some) = by (value_at t lo bits)
+          where
+            by : (b : Bool) → (if b then value_at t one bits else value_at t hi bits) ≡ true
+            by true = one_value bits
+            by false = ones.holds bits some
+
+        pub gone-has : (bits : Bits) → HasSome levels meaning bits → ite_value t (record { f = lo; g = one; h = hi }) bits ≡ true
+        gone-has bits some = either-holds bits (gone-holds bits some)
+
+        -- the one answer, or the other
+        pub gone-step : (new : Table) (r floor : ℕ) → level ≤ floor → StandsBelow new floor r (ite_value t (record { f = lo; g = one; h = hi })) → HidesBelow new level r levels meaning
+        gone-step new r floor under either = record {
+          valid = either.valid;
+          top = omega (arith, either.top, under);
+          found = λ bits is. gone-found bits (sym (either.value bits) ∙ is);
+          holds = λ bits some. either.value bits ∙ gone-has bits some;
+        }
 
       -- the first answer is 1 already
       pub gone-one : (t : Table) (lo p : ℕ) → HidesBelow t p lo levels low → level ≤ p → lo ≡ 1 → HidesBelow t level lo levels meaning

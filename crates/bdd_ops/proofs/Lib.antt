@@ -6,3 +6,4 @@ pub mod Maps
 pub mod Renamed
 pub mod Bits
 pub mod Missing
+pub mod Short

@@ -15,8 +15,6 @@ mod memo;
 mod quantifiers;
 mod renaming;
 mod steps;
-#[cfg(test)]
-mod tests;
 
 pub use code::{CODE_BITS, Code};
 pub use connectives::{and, ite, not, or};

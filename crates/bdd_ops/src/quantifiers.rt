@@ -3,7 +3,7 @@
 
 ghost use Rattle.std.specs.Prelude.{◌≡◌, ◌<◌, ◌≤◌, ◌&&◌, ℕ, List, length, Err, IfOk, IfSome, IfNone};
 ghost use Rattle.node_table.specs.Table.{value_at, IsValid, Grows};
-ghost use Rattle.bdd_ops.specs.Meaning.{StandsForHidden};
+ghost use Rattle.bdd_ops.specs.Meaning.{StandsForHidden, IsShort};
 ghost use Rattle.bdd_ops.specs.Recursion.{AreValid, low_of, ite_value, HidesBelow, IsRight, IsIte, IsHidden};
 
 use crate::choice::Choice;
@@ -21,6 +21,7 @@ pub fn exists(space: &mut Space, f: Ref, levels: &LevelSet) -> Result<Ref, MkFau
     ensures grows { Grows space.old space.new }
     ensures levels { space.new.levels ≡ space.old.levels }
     ensures full { result ≡ Err MkFault.Full → length space.new.nodes ≡ space.new.limit }
+    ensures needed { result ≡ Err MkFault.Full → IsShort space.new levels.now (λ bits. value_at space.old f bits) }
 {
     let one = space.one();
     and_exists(space, f, one, levels)
@@ -36,6 +37,7 @@ pub fn and_exists(space: &mut Space, f: Ref, g: Ref, levels: &LevelSet) -> Resul
     ensures grows { Grows space.old space.new }
     ensures levels { space.new.levels ≡ space.old.levels }
     ensures full { result ≡ Err MkFault.Full → length space.new.nodes ≡ space.new.limit }
+    ensures needed { result ≡ Err MkFault.Full → IsShort space.new levels.now (λ bits. value_at space.old f bits && value_at space.old g bits) }
 {
     let zero = space.zero();
     let mut ites = Memo::new(space.allocator());
@@ -75,6 +77,7 @@ fn hide_below(
     ensures grows { Grows space.old space.new }
     ensures levels { space.new.levels ≡ space.old.levels }
     ensures full { result ≡ Err MkFault.Full → length space.new.nodes ≡ space.new.limit }
+    ensures needed { result ≡ Err MkFault.Full → IsShort space.new levels.now (ite_value space.old c.now) }
     ensures ites { IsRight IsIte space.new ites.new }
     ensures hidden { IsRight (IsHidden levels.now) space.new hidden.new }
 {
@@ -113,6 +116,7 @@ fn hide_at(
     ensures grows { Grows space.old space.new }
     ensures levels { space.new.levels ≡ space.old.levels }
     ensures full { result ≡ Err MkFault.Full → length space.new.nodes ≡ space.new.limit }
+    ensures needed { result ≡ Err MkFault.Full → IsShort space.new levels.now (ite_value space.old c.now) }
     ensures ites { IsRight IsIte space.new ites.new }
     ensures hidden { IsRight (IsHidden levels.now) space.new hidden.new }
 {

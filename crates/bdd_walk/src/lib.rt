@@ -5,8 +5,6 @@
 mod cuts;
 mod least_bits;
 mod paths;
-#[cfg(test)]
-mod tests;
 mod trail;
 
 pub use bdd_ops::{CODE_BITS, Code};

@@ -12,8 +12,6 @@ mod number;
 mod row;
 mod shapes;
 mod signs;
-#[cfg(test)]
-mod tests;
 
 pub use buffer::fill_words;
 pub use entry::{Spelled, Taken, entry_at};

@@ -10,8 +10,6 @@ mod mention;
 mod place;
 mod signal_table;
 mod take_line;
-#[cfg(test)]
-mod tests;
 
 pub use first_pass::read_names;
 pub use laws::lines_without_fault;

@@ -1,11 +1,11 @@
 -- Each signal of a text's network has a name.
 use Rattle.std.proofs.Common.{◌≡◌, ◌<◌, ◌≤◌, ◌++◌, ℕ, true, false, List, [], ◌∷◌, length, map, nat_eq, count_by, Some, None, unwrap_or, if◌then◌else◌, refl, sym, ◌∙◌, ap, subst}
-use Rattle.std.specs.List.{All, flat_map}
+use Rattle.std.specs.List.{All, AllByRecursion, flat_map}
 use Rattle.std.proofs.lemmas.Bool.{false≢true}
 use Rattle.std.proofs.lemmas.List.{length-map}
 use Rattle.std.proofs.lemmas.List.Elements.{All-nil, All-cons, All-append}
 use Rattle.std.proofs.lemmas.Option.{slice_get_within}
-use Rattle.name_table.specs.Variables.{IsTable, names_of, is_in, place_of, with_name, are_different}
+use Rattle.name_table.specs.Variables.{Variable, IsTable, names_of, is_in, place_of, with_name, are_different}
 use Rattle.name_table.proofs.Apart.{different_with}
 use Rattle.name_table.proofs.Found.{absent, present}
 use Rattle.net_model.specs.Words.{Scope}
@@ -172,11 +172,12 @@ distinct_differ : (had names : List Name) → are_different had ≡ true → are
 distinct_differ had [] h = h
 distinct_differ had (name ∷ names) h = distinct_differ (with_name had name) names (different_with had name h)
 
--- a text's names, where they are few, are a table
-pub table_said : (text : List Form) (vars : Scope) → vars ≡ variables_in text → length vars ≤ 4096 → IsTable vars
-table_said text vars is few = record {
+-- a text's names, where they are few and have few values, are a table
+pub table_said : (text : List Form) (vars : Scope) → vars ≡ variables_in text → length vars ≤ 4096 → AllByRecursion (λ (v : Variable). length v.values ≤ 65536) (variables_in text) → IsTable vars
+table_said text vars is few small = record {
   few = few;
   different = subst (λ (names : List Name). are_different names ≡ true) (sym (ap names_of is ∙ names_of_variables (domain_in text) (names_in text))) (distinct_differ [] (flat_map mentions text) refl);
+  small = subst (λ (v : Scope). AllByRecursion (λ (v : Variable). length v.values ≤ 65536) v) (sym is) small;
 }
 
 -- each signal of the network that a text says has a name

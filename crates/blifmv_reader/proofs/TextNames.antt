@@ -5,10 +5,11 @@ use Rattle.std.specs.List.{AllByRecursion, list_any, list_all, flat_map, range_w
 use Rattle.std.proofs.lemmas.Bool.{false≢true, and_parts, and_from, eqb-true, lt-ltb, ltb-true}
 use Rattle.std.proofs.lemmas.Bool.Decides.{nat_tests}
 use Rattle.std.proofs.lemmas.Fmt.{decimal_nonempty, digits_decimal}
+use Rattle.std.proofs.lemmas.List.FromFn.{length-map-range_with_len}
 use Rattle.std.proofs.lemmas.Str.Parse.{numerals_by_value}
 use Rattle.lex_core.specs.LogicalLines.{is_alone}
 use Rattle.lex_core.specs.TextWords.{is_word_byte, is_word, is_text_word}
-use Rattle.name_table.specs.Variables.{is_in, with_name, numbers, are_different}
+use Rattle.name_table.specs.Variables.{Variable, is_in, with_name, numbers, are_different}
 use Rattle.name_table.proofs.Apart.{IsDomain-numbers}
 use Rattle.net_model.specs.Forms.{Name, Form, ModelLine, InputsLine, OutputsLine, DomainsLine, TableLine, ResetLine, LatchLine, DefaultLine, EndLine, RowLine, is_name, is_value_name, ends_with_backslash, number_of, is_number, has_names}
 use Rattle.net_model.specs.NetTexts.{mentions, distinct, names_in, domain_given, domain_in, variables_in, has_domains, LinesSay}
@@ -124,27 +125,40 @@ numbers_values low (suc n) few = (number_value low (omega arith), numbers_values
 record IsTextDomain (values : List Name) : Type 0 where
   values_are : AllByRecursion IsTextValue values
   some : 0 < length values
+  few : length values ≤ 65536
   different : are_different values ≡ true
 
-numbers_domain : (n : ℕ) → 0 < n → n ≤ 131072 → IsTextDomain (numbers n)
+numbers_domain : (n : ℕ) → 0 < n → n ≤ 65536 → IsTextDomain (numbers n)
 numbers_domain n some few =
-    let domain = IsDomain-numbers n some few in
-    record { values_are = numbers_values 0 n (omega arith); some = domain.some; different = domain.different }
+    let domain = IsDomain-numbers n some (omega (arith, few)) in
+    record {
+      values_are = numbers_values 0 n (omega (arith, few));
+      some = domain.some;
+      few = rw (length-map-range_with_len decimal 0 n) few;
+      different = domain.different;
+    }
+
+few_numbers : (n : ℕ) → nat_lt 65536 n ≡ false → n ≤ 65536
+few_numbers n h = grind (arith, nat_tests)
+
+few_counted : (m n : ℕ) → ((suc m == 0) || (suc m == n)) ≡ true → n ≤ 65536 → suc m ≤ 65536
+few_counted m n counted few = grind (arith, nat_tests)
 
 -- a line that gives a domain with so many values at most
 given_domain : (names : List Name) (count : Name) (values : List Name) → IsWritten (DomainsLine names count values) → has_names (DomainsLine names count values) ≡ true → are_different values ≡ true → nat_lt 65536 (number_of count) ≡ false → IsTextDomain (domain_given count values)
 given_domain names count [] written named different few =
     let counted = and_parts (is_number count) _ written.given.1 in
     let some : 0 < number_of count = ltb-true 0 (number_of count) (and_parts (nat_lt 0 (number_of count)) _ counted.1).0 in
-    numbers_domain (number_of count) some (few_values (number_of count) few)
-  where
-    few_values : (n : ℕ) → nat_lt 65536 n ≡ false → n ≤ 131072
-    few_values n h = grind (arith, nat_tests)
-given_domain names count (value ∷ values) written named different few = record {
-  values_are = values_words (value ∷ values) written.given.0 (and_parts (list_all is_name names) (list_all is_value_name (value ∷ values)) named).1;
-  some = omega arith;
-  different = different;
-}
+    numbers_domain (number_of count) some (few_numbers (number_of count) few)
+given_domain names count (value ∷ values) written named different few =
+    let counted = and_parts (is_number count) _ written.given.1 in
+    let as_many = (and_parts (nat_lt 0 (number_of count)) _ counted.1).1 in
+    record {
+      values_are = values_words (value ∷ values) written.given.0 (and_parts (list_all is_name names) (list_all is_value_name (value ∷ values)) named).1;
+      some = omega arith;
+      few = few_counted (length values) (number_of count) as_many (few_numbers (number_of count) few);
+      different = different;
+    }
 
 -- the domain of a name is given by a line, or of two numbers
 domains_are : (text : List Form) (domain : Name → List Name) → AllByRecursion IsWritten text → list_all has_names text ≡ true → list_all (has_domains domain) text ≡ true → list_any has_many_values text ≡ false → (name : Name) → IsTextDomain (domain_in text name)
@@ -221,3 +235,13 @@ text_variables bytes text says within =
     let written = text_written bytes text says in
     variables_are (names_in text) (domain_in text) (distinct_are [] (flat_map mentions text) tt (text_names text written says.spelled))
     (domains_are text (domain_in text) written says.spelled says.domains within.values)
+
+small_variables : (names : List Name) (domain : Name → List Name) → ((name : Name) → IsTextDomain (domain name)) → AllByRecursion (λ (v : Variable). length v.values ≤ 65536) (map (λ name. record { name = name; values = domain name }) names)
+small_variables [] domain k = tt
+small_variables (name ∷ names) domain k = ((k name).few, small_variables names domain k)
+
+-- and none of them has too many values
+pub text_small : (bytes : List ℕ) (text : List Form) → LinesSay bytes text → IsWithinLimits text → AllByRecursion (λ (v : Variable). length v.values ≤ 65536) (variables_in text)
+text_small bytes text says within =
+    small_variables (names_in text) (domain_in text)
+    (domains_are text (domain_in text) (text_written bytes text says) says.spelled says.domains within.values)

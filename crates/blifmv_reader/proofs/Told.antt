@@ -14,14 +14,16 @@ use Rattle.blifmv_signals.proofs.Knowing.{right_known}
 use Rattle.blifmv_tables.specs.RowFaults.{row_fault}
 use Rattle.blifmv_reader.specs.Told.{IsSignalFault, FindsFirst, FindsRowFault, FindsSignalFault, FindsNetFault}
 use Rattle.blifmv_reader.proofs.Signals.{table_said, known_signals}
+use Rattle.blifmv_reader.proofs.TextNames.{text_small}
 
 -- the signals of a text without a fault of the first pass are known
 pub known_of : (bytes : List ℕ) → line_fault bytes ≡ None → (known : Known) × IsKnown (net_said (text_in bytes)) (text_in bytes) known
 known_of bytes none =
     let text = text_in bytes in
-    let names = (text_faultless bytes none).within.signals in
+    let faultless = text_faultless bytes none in
+    let names = faultless.within.signals in
     let few : length (variables_in text) ≤ 4096 = subst (λ (n : ℕ). n ≤ 4096) (sym (length-map (names_in text) _)) names in
-    right_known (net_said text) text (known_signals text (table_said text (variables_in text) refl few))
+    right_known (net_said text) text (known_signals text (table_said text (variables_in text) refl few (text_small bytes text faultless.says faultless.within)))
 
 abbrev pub FindsIn : {T : Type 0} → Result T TextFault → List ℕ → Net → Type 0
 FindsIn result bytes net = (known : Known) → IsKnown net (text_in bytes) known → Finds result (signal_fault net known bytes)

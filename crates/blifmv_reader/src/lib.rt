@@ -7,10 +7,6 @@
 
 mod laws;
 mod network;
-#[cfg(test)]
-mod problem_tests;
-#[cfg(test)]
-mod tests;
 
 pub use laws::texts_without_fault;
 pub use network::{bytes_stand_for_one_net, read_net};

@@ -7,8 +7,6 @@ mod laws;
 mod line;
 mod lookup;
 mod sets;
-#[cfg(test)]
-mod tests;
 mod third_pass;
 mod whole;
 

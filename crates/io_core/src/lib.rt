@@ -10,8 +10,6 @@ mod mem_shelf;
 mod mem_sink;
 mod shelf;
 mod sink;
-#[cfg(test)]
-mod tests;
 
 pub use honest_shelf::HonestShelf;
 pub use honest_sink::HonestSink;

@@ -8,8 +8,6 @@ mod line;
 mod lines;
 mod passing;
 mod sign;
-#[cfg(test)]
-mod tests;
 mod words;
 
 pub use laws::{lines_are_in_order, words_are_of_word_bytes};

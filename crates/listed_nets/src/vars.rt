@@ -84,7 +84,7 @@ fn value_names(alloc: Global, domain: &Domain) -> Result<Vec<Vec<u8>>, AllocErro
     let mut names = Vec::new(alloc);
     for value in 0..domain.len() {
         if let Some(name) = domain.name(value) {
-            names.push(name.to_vec(alloc)?)?;
+            names.push(name.as_slice().to_vec(alloc)?)?;
         }
     }
     Ok(names)

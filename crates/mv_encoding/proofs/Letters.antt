@@ -1,17 +1,20 @@
 -- The codes of letters.
-use Rattle.std.proofs.Common.{◌≡◌, ◌&&◌, ◌↔◌, ◌+◌, ◌<◌, ◌≤◌, ◌⊎◌, ◌∙◌, ℕ, zero, suc, true, false, if◌then◌else◌, List, [], ◌∷◌, ◌++◌, length, get_or, take, drop, refl, sym, ap, inl, inr, arith, zero-add}
+use Rattle.std.proofs.Common.{◌≡◌, ◌==◌, ◌&&◌, ◌↔◌, ◌+◌, ◌-◌, ◌^◌, ◌<◌, ◌≤◌, ◌⊎◌, ◌∙◌, ℕ, zero, suc, Bool, true, false, if◌then◌else◌, List, [], ◌∷◌, ◌++◌, length, get_or, take, drop, refl, sym, ap, inl, inr, arith, zero-add}
 use Rattle.std.proofs.lemmas.List.{take_more}
 use Rattle.std.specs.Prelude.{nat_lt}
 use Rattle.std.specs.List.{range_with_len}
-use Rattle.std.proofs.lemmas.Bool.{cases_lt, ltb-true, lt-ltb, le-ltb, and_parts, and_from, false≢true}
+use Rattle.std.proofs.lemmas.Bool.{cases_lt, eqb-true, eq-eqb, ltb-true, lt-ltb, le-ltb, and_parts, and_from, false≢true}
 use Rattle.name_table.specs.ScopeVars.{variable_at}
 use Rattle.name_table.proofs.Powers.{code_enough}
 use Rattle.net_model.specs.Words.{Variable, Scope, Letter, IsLetter}
 use Rattle.node_table.specs.Table.{Bits, Table, value_at}
 use Rattle.bdd_ops.specs.Levels.{SameAt}
+use Rattle.bdd_ops.specs.Meaning.{StandsFor}
 use Rattle.bdd_ops.specs.Recursion.{StandsBelow}
 use Rattle.mv_encoding.specs.declared.field.Field.{Field}
-use Rattle.mv_encoding.specs.Layouts.{Layout, bits_of, bits_in, bits_before, number_at, numbers_at, is_letter}
+use Rattle.name_table.specs.CodeBits.{bits_of, bits_in}
+use Rattle.mv_encoding.specs.Layouts.{Layout, bits_before, number_at, numbers_at, number_of, numbers_of, is_letter}
+use Rattle.mv_encoding.specs.Sets.{StandsForSet, layout_of, HasCode}
 use Rattle.mv_encoding.specs.Fields.{field_at, level_of, is_letter_from}
 use Rattle.mv_encoding.proofs.Places.{before-next, drop-next, take-next}
 use Rattle.mv_encoding.proofs.Ranges.{in-range, range-in}
@@ -124,16 +127,92 @@ letter-from layout var known bits =
     ap (λ vs. is_letter vs (numbers_at vs (level_of layout var) bits)) (drop-next layout.scope var known)
     ∙ ap (λ l. nat_lt (number_at (level_of layout var) (bits_of x) bits) (length x.values) && is_letter (drop (var + 1) layout.scope) (numbers_at (drop (var + 1) layout.scope) l bits)) later
 
--- the diagram of the letters from a variable on, by that of those behind it
+-- the value of the letters from a variable on, by that of those behind it
+pub valid-value : {t : Table} {codes : ℕ} (layout : Layout) (var next level : ℕ) (field : Field) → var < length layout.scope → next ≡ var + 1 → level ≡ level_of layout var → field ≡ field_at layout.scope var → StandsBelow t (level_of layout next) codes (is_letter_from layout next) → (b : Bits) → (nat_lt (number_at level field.bits b) field.values && value_at t codes b) ≡ is_letter_from layout var b
+valid-value {t} {codes} layout var next level field known after at is behind b =
+    (λ i. nat_lt (number_at (at i) (is i).bits b) (is i).values && behind.value b i)
+    ∙ ap (λ n. nat_lt (number_at (level_of layout var) (bits_of (variable_at layout.scope var)) b) (length (variable_at layout.scope var).values) && is_letter_from layout n b) after
+    ∙ sym (letter-from layout var known b)
+
+-- and the diagram
 pub valid-next : {t new : Table} {codes r : ℕ} (layout : Layout) (var next level : ℕ) (field : Field) → var < length layout.scope → next ≡ var + 1 → level ≡ level_of layout var → field ≡ field_at layout.scope var → StandsBelow t (level_of layout next) codes (is_letter_from layout next) → StandsBelow new level r (λ b. nat_lt (number_at level field.bits b) field.values && value_at t codes b) → StandsBelow new (level_of layout var) r (is_letter_from layout var)
 valid-next {t} {new} {codes} {r} layout var next level field known after at is behind made = record {
   valid = made.valid;
   top = omega (arith, at, made.top);
-  value = λ b.
-      made.value b
-      ∙ (λ i. nat_lt (number_at (at i) (is i).bits b) (is i).values && behind.value b i)
-      ∙ ap (λ n. nat_lt (number_at (level_of layout var) (bits_of (variable_at layout.scope var)) b) (length (variable_at layout.scope var).values) && is_letter_from layout n b) after
-      ∙ sym (letter-from layout var known b);
+  value = λ b. made.value b ∙ valid-value layout var next level field known after at is behind b;
+}
+
+-- no bits spell the one value that there is
+pub no-bits-value : (b level value values : ℕ) (bits : Bits) → b ≡ 0 → value < values → values ≤ 2 ^ b → (number_at level b bits == value) ≡ true
+no-bits-value zero level value values bits none small enough = eq-eqb 0 value (omega (arith, small, enough))
+no-bits-value (suc b) level value values bits none small enough = absurd (omega (arith, none))
+
+-- and the letter of such values
+pub no-bits-letter : (scope : Scope) (level : ℕ) (bits : Bits) → bits_in scope ≡ 0 → ((var : ℕ) → var < length scope → 0 < length (variable_at scope var).values) → is_letter scope (numbers_at scope level bits) ≡ true
+no-bits-letter [] level bits none some = refl
+no-bits-letter (v ∷ scope) level bits none some =
+    let here : bits_of v ≡ 0 = omega (arith, none) in
+    let number : number_at level (bits_of v) bits ≡ 0 = ap (λ b. number_at level b bits) here in
+    let first = some 0 (omega arith) in
+    and_from (nat_lt (number_at level (bits_of v) bits) (length v.values)) (is_letter scope (numbers_at scope (level + bits_of v) bits))
+    (lt-ltb (number_at level (bits_of v) bits) (length v.values) (omega (arith, number, first)))
+    (no-bits-letter scope (level + bits_of v) bits (omega (arith, none)) (λ var known. some (suc var) (omega (arith, known))))
+
+-- numbers that are read at two places
+number-shift : (b a c : ℕ) (u v : Bits) → ((k : ℕ) → k < b → u (a + k) ≡ v (c + k)) → number_at a b u ≡ number_at c b v
+number-shift zero a c u v same = refl
+number-shift (suc b) a c u v same =
+    let from : a ≡ a + 0 = omega arith in
+    let to : c + 0 ≡ c = omega arith in
+    let here : u a ≡ v c = ap u from ∙ same 0 (omega arith) ∙ ap v to in
+    let rest = number-shift b (a + 1) (c + 1) u v (λ k low.
+    let left : a + 1 + k ≡ a + (k + 1) = omega arith in
+    let right : c + (k + 1) ≡ c + 1 + k = omega arith in
+    ap u left ∙ same (k + 1) (omega (arith, low)) ∙ ap v right) in
+    λ i. (if here i then 2 ^ b else 0) + rest i
+
+numbers-shift : (scope : Scope) (a c : ℕ) (u v : Bits) → ((k : ℕ) → k < bits_in scope → u (a + k) ≡ v (c + k)) → numbers_at scope a u ≡ numbers_at scope c v
+numbers-shift [] a c u v same = refl
+numbers-shift (x ∷ scope) a c u v same =
+    let first = number-shift (bits_of x) a c u v (λ k low. same k (omega (arith, low))) in
+    let rest = numbers-shift scope (a + bits_of x) (c + bits_of x) u v (λ k low.
+    let left : a + bits_of x + k ≡ a + (bits_of x + k) = omega arith in
+    let right : c + (bits_of x + k) ≡ c + bits_of x + k = omega arith in
+    ap u left ∙ same (bits_of x + k) (omega (arith, low)) ∙ ap v right) in
+    λ i. first i ∷ rest i
+
+-- bits have the numbers of a code exactly where they have its bits
+pub code-laid : (layout : Layout) (letter : Letter) (code : ℕ → Bool) → numbers_at layout.scope 0 code ≡ letter → (bits : Bits) → HasCode layout code bits ↔ (numbers_of layout bits ≡ letter)
+code-laid layout letter code is bits = (
+  λ has. numbers-shift layout.scope layout.first 0 bits code (λ k low. let zeroes : k ≡ 0 + k = omega arith in has k low ∙ ap code zeroes) ∙ is,
+  λ same k low.
+      let v : Bits = λ j. code (j - layout.first) in
+      let there : numbers_at layout.scope layout.first v ≡ numbers_at layout.scope 0 code = numbers-shift layout.scope layout.first 0 v code (λ j below. let back : layout.first + j - layout.first ≡ 0 + j = omega arith in ap code back) in
+      let last : layout.first + k - layout.first ≡ k = omega arith in
+      codes-same layout.scope layout.first bits v (same ∙ sym is ∙ sym there) (layout.first + k) (omega arith) (omega (arith, low)) ∙ ap code last,
+)
+
+-- the set of all letters
+pub set-of-letters : (t : Table) (layout : Layout) (r : ℕ) → StandsFor t r (λ bits. is_letter layout.scope (numbers_of layout bits)) → StandsForSet t layout r (λ letter. Unit {0})
+set-of-letters t layout r s = record {
+  valid = s.valid;
+  depends = λ u v same. s.value u ∙ ap (is_letter layout.scope) ((one-code layout.scope layout.first u v).1 same) ∙ sym (s.value v);
+  found = λ bits is. ((letter-test layout.scope (numbers_of layout bits)).0 (sym (s.value bits) ∙ is), tt);
+  holds = λ bits letter member. s.value bits ∙ (letter-test layout.scope (numbers_of layout bits)).1 letter;
+}
+
+-- the set of one value of a variable
+pub set-of-value : (t : Table) (layout : Layout) (var value r : ℕ) → value < length (variable_at layout.scope var).values → StandsFor t r (λ bits. number_of layout var bits == value) → StandsForSet t (layout_of layout var) r (λ letter. letter ≡ value ∷ [])
+set-of-value t layout var value r small s = record {
+  valid = s.valid;
+  depends = λ u v same.
+      let numbers = (one-code (layout_of layout var).scope (layout_of layout var).first u v).1 same in
+      let number = (same-parts (number_of layout var u) (number_of layout var v) [] [] numbers).0 in
+      s.value u ∙ ap (λ n. n == value) number ∙ sym (s.value v);
+  found = λ bits is.
+      let number : number_of layout var bits ≡ value = eqb-true (number_of layout var bits) value (sym (s.value bits) ∙ is) in
+      ((omega (arith, number, small), tt), ap (λ n. n ∷ []) number);
+  holds = λ bits letter member. s.value bits ∙ eq-eqb (number_of layout var bits) value (same-parts (number_of layout var bits) value [] [] member).0;
 }
 
 -- so many values, and each one of its variable's, are a letter

@@ -3,3 +3,4 @@ pub mod Ranges
 pub mod Letters
 pub mod Places
 pub mod Chains
+pub mod Missing

@@ -5,7 +5,8 @@ use Rattle.name_table.specs.ScopeVars.{variable_at}
 use Rattle.name_table.proofs.Powers.{code_enough}
 use Rattle.net_model.specs.Words.{Scope}
 use Rattle.mv_encoding.specs.declared.field.Field.{Field}
-use Rattle.mv_encoding.specs.Layouts.{bits_of, bits_in, bits_before}
+use Rattle.name_table.specs.CodeBits.{bits_of, bits_in}
+use Rattle.mv_encoding.specs.Layouts.{bits_before}
 use Rattle.mv_encoding.specs.Fields.{field_at, fields_from, FitsIn}
 
 before-suc : (scope : Scope) (var : ℕ) → var < length scope → bits_before scope (suc var) ≡ bits_before scope var + bits_of (variable_at scope var)

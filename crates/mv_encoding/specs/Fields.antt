@@ -5,7 +5,8 @@ use Rattle.name_table.specs.ScopeVars.{variable_at}
 use Rattle.net_model.specs.Words.{Scope}
 use Rattle.node_table.specs.Table.{Bits}
 use Rattle.mv_encoding.specs.declared.field.Field.{Field}
-use Rattle.mv_encoding.specs.Layouts.{Layout, bits_of, bits_in, bits_before, numbers_at, is_letter}
+use Rattle.name_table.specs.CodeBits.{bits_of, bits_in}
+use Rattle.mv_encoding.specs.Layouts.{Layout, bits_before, numbers_at, is_letter}
 
 -- the field of one variable
 abbrev pub field_at : Scope → ℕ → Field

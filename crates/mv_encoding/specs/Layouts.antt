@@ -1,10 +1,10 @@
 -- Letters in bits. Each variable of a scope has a code of its own, the variables one after another on consecutive levels,
 -- and in each code the most significant bit comes first.
-use Rattle.std.specs.Prelude.{◌≡◌, ◌+◌, ◌^◌, ◌<◌, ◌≤◌, ℕ, zero, suc, Bool, true, false, ◌&&◌, if◌then◌else◌, nat_lt, List, [], ◌∷◌, length, take}
+use Rattle.std.specs.Prelude.{◌≡◌, ◌+◌, ◌^◌, ◌<◌, ℕ, zero, suc, Bool, true, false, ◌&&◌, if◌then◌else◌, nat_lt, List, [], ◌∷◌, length, take}
 use Rattle.std.specs.List.{range_with_len}
-use Rattle.name_table.specs.CodeBits.{code_bits}
+use Rattle.name_table.specs.CodeBits.{bits_of, bits_in}
 use Rattle.name_table.specs.ScopeVars.{variable_at}
-use Rattle.net_model.specs.Words.{Variable, Scope}
+use Rattle.net_model.specs.Words.{Scope}
 use Rattle.node_table.specs.Table.{Bits, Table}
 use Rattle.mv_encoding.specs.declared.fault.CodeFault.{CodeFault}
 use Rattle.mv_encoding.specs.declared.fault.CodeFault.TheVariants as faults
@@ -13,15 +13,6 @@ use Rattle.mv_encoding.specs.declared.fault.CodeFault.TheVariants as faults
 pub record Layout : Type 0 where
   pub scope : Scope
   pub first : ℕ
-
--- the bits of a variable's code
-abbrev pub bits_of : Variable → ℕ
-bits_of v = code_bits (length v.values)
-
--- the bits of a letter's code
-abbrev pub bits_in : Scope → ℕ
-bits_in [] = 0
-bits_in (v ∷ scope) = bits_of v + bits_in scope
 
 -- the bits before those of a variable
 abbrev pub bits_before : Scope → ℕ → ℕ
@@ -55,9 +46,9 @@ numbers_of layout bits = numbers_at layout.scope layout.first bits
 abbrev pub levels_of : Layout → List ℕ
 levels_of layout = range_with_len layout.first (bits_in layout.scope)
 
--- the levels are there
+-- each level of the code is there; a code without bits asks for none
 abbrev pub IsLaid : Layout → Table → Type 0
-IsLaid layout t = layout.first + bits_in layout.scope ≤ t.levels
+IsLaid layout t = (k : ℕ) → k < bits_in layout.scope → layout.first + k < t.levels
 
 -- a letter over the scope has too many bits, and this is their number
 abbrev pub IsRefused : ℕ → CodeFault → Type 0

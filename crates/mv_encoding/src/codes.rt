@@ -2,6 +2,7 @@
 
 ghost use Rattle.std.specs.Prelude.{◌≡◌, ◌==◌, ◌&&◌, ◌+◌, ◌^◌, ◌<◌, ◌≤◌, length, nat_lt, Err, IfOk};
 ghost use Rattle.node_table.specs.Table.{value_at, top_of, IsValid, Grows};
+ghost use Rattle.bdd_ops.specs.Meaning.{IsMissing};
 ghost use Rattle.bdd_ops.specs.Recursion.{StandsBelow};
 ghost use Rattle.mv_encoding.specs.Layouts.{number_at};
 
@@ -22,6 +23,7 @@ pub(crate) fn number_codes(
     ensures grows { Grows space.old space.new }
     ensures levels { space.new.levels ≡ space.old.levels }
     ensures full { result ≡ Err MkFault.Full → length space.new.nodes ≡ space.new.limit }
+    ensures needed { result ≡ Err MkFault.Full → IsMissing space.new (λ b. number_at level bits b == number) }
 {
     let zero = space.zero();
     if bits == 0 {
@@ -54,6 +56,7 @@ pub(crate) fn codes_below(
     ensures grows { Grows space.old space.new }
     ensures levels { space.new.levels ≡ space.old.levels }
     ensures full { result ≡ Err MkFault.Full → length space.new.nodes ≡ space.new.limit }
+    ensures needed { result ≡ Err MkFault.Full → IsMissing space.new (λ b. nat_lt (number_at level bits b) end && value_at space.old rest b) }
 {
     let zero = space.zero();
     if bits == 0 {

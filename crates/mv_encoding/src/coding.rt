@@ -1,19 +1,21 @@
 //! A coding of letters on the levels of a space.
 
-ghost use Rattle.std.specs.Prelude.{◌≡◌, ◌==◌, ◌<◌, ◌≤◌, ℕ, length, Err, IfOk, IfErr, IfSome, IfNone, OnOk, false};
+ghost use Rattle.std.specs.Prelude.{◌≡◌, ◌==◌, ◌+◌, ◌<◌, ◌≤◌, ◌↔◌, ◌∷◌, [], ℕ, length, Err, IfOk, IfErr, IfSome, IfNone, OnOk, false};
 ghost use Rattle.name_table.specs.ScopeVars.{variable_at};
 ghost use Rattle.net_model.specs.Words.{IsLetter};
-ghost use Rattle.node_table.specs.Table.{Grows};
-ghost use Rattle.bdd_ops.specs.Meaning.{StandsFor};
+ghost use Rattle.node_table.specs.Table.{Bits, Grows};
+ghost use Rattle.bdd_ops.specs.Meaning.{StandsFor, IsMissing};
 ghost use Rattle.bdd_ops.specs.Words.{bit_of};
 ghost use Rattle.mv_encoding.specs.Fields.{field_at, FitsIn};
-ghost use Rattle.mv_encoding.specs.Layouts.{bits_of, bits_in, bits_before, number_at, numbers_at, number_of, numbers_of, levels_of, is_letter, IsLaid, IsRefused};
+ghost use Rattle.name_table.specs.CodeBits.{bits_of, bits_in};
+ghost use Rattle.mv_encoding.specs.Layouts.{bits_before, number_at, numbers_at, number_of, numbers_of, levels_of, is_letter, IsLaid, IsRefused};
+ghost use Rattle.mv_encoding.specs.Sets.{StandsForSet, layout_of, HasCode};
 
 use crate::codes::{codes_below, number_codes};
 use crate::fault::CodeFault;
 use crate::field::Field;
 use crate::numbers::{number_in, put_number};
-use crate::planning::{bits_of_letter, copy_of, fields_of, levels_from};
+use crate::planning::{bits_of_letter, fields_of, levels_from};
 use bdd_ops::{Code, LevelSet};
 use name_table::Scope;
 use net_model::Letter;
@@ -60,7 +62,7 @@ impl Coding {
         }
         let fields = fields_of(alloc, scope)?;
         let levels = levels_from(alloc, first, bits)?;
-        let scope = copy_of(alloc, scope)?;
+        let scope = scope.clone()?;
         Ok(Coding {
             scope,
             first,
@@ -99,9 +101,14 @@ impl Coding {
         ensures ok { IfOk result (λ r. StandsFor space.new r (λ bits. number_of self.now var bits == value)) }
         ensures grows { Grows space.old space.new }
         ensures levels { space.new.levels ≡ space.old.levels }
+        ensures letters { IfOk result (λ r. StandsForSet space.new (layout_of self.now var) r (λ letter. letter ≡ value ∷ [])) }
         ensures full { result ≡ Err MkFault.Full → length space.new.nodes ≡ space.new.limit }
+        ensures needed { result ≡ Err MkFault.Full → IsMissing space.new (λ bits. number_of self.now var bits == value) }
     {
         let field = self.field(var);
+        if field.bits == 0 {
+            return Ok(space.one());
+        }
         number_codes(space, self.first + field.before, field.bits, value)
     }
 
@@ -111,7 +118,24 @@ impl Coding {
         ensures ok { IfOk result (λ r. StandsFor space.new r (λ bits. is_letter self.now.scope (numbers_of self.now bits))) }
         ensures grows { Grows space.old space.new }
         ensures levels { space.new.levels ≡ space.old.levels }
+        ensures letters { IfOk result (λ r. StandsForSet space.new self.now r (λ letter. Unit {0})) }
         ensures full { result ≡ Err MkFault.Full → length space.new.nodes ≡ space.new.limit }
+        ensures needed { result ≡ Err MkFault.Full → IsMissing space.new (λ bits. is_letter self.now.scope (numbers_of self.now bits)) }
+    {
+        if self.levels.len() == 0 {
+            return Ok(space.one());
+        }
+        self.codes_of_letters(space)
+    }
+
+    // The set of all letters, where all their levels are there.
+    fn codes_of_letters(&self, space: &mut Space) -> Result<Ref, MkFault>
+        requires { self.now.first + bits_in self.now.scope ≤ space.old.levels }
+        ensures ok { IfOk result (λ r. StandsFor space.new r (λ bits. is_letter self.now.scope (numbers_of self.now bits))) }
+        ensures grows { Grows space.old space.new }
+        ensures levels { space.new.levels ≡ space.old.levels }
+        ensures full { result ≡ Err MkFault.Full → length space.new.nodes ≡ space.new.limit }
+        ensures needed { result ≡ Err MkFault.Full → IsMissing space.new (λ bits. is_letter self.now.scope (numbers_of self.now bits)) }
     {
         let mut codes = space.one();
         for var in (0..self.scope.len()).rev() {
@@ -132,6 +156,7 @@ impl Coding {
         requires { IsLetter self.now.scope letter.now.values.items }
         ensures numbers { numbers_at self.now.scope 0 (bit_of result) ≡ letter.now.values.items }
         ensures rest { (k : ℕ) → bits_in self.now.scope ≤ k → bit_of result k ≡ false }
+        ensures laid { (bits : Bits) → HasCode self.now (bit_of result) bits ↔ (numbers_of self.now bits ≡ letter.now.values.items) }
     {
         let mut code = Code::zero();
         for var in 0..self.scope.len() {

@@ -5,7 +5,8 @@ ghost use Rattle.std.specs.List.{range_with_len};
 ghost use Rattle.net_model.specs.Words.{Scope, Letter, IsLetter};
 ghost use Rattle.node_table.specs.Table.{Bits};
 ghost use Rattle.bdd_ops.specs.Levels.{SameAt};
-ghost use Rattle.mv_encoding.specs.Layouts.{bits_in, numbers_at, is_letter};
+ghost use Rattle.name_table.specs.CodeBits.{bits_in};
+ghost use Rattle.mv_encoding.specs.Layouts.{numbers_at, is_letter};
 
 /// Each letter over a scope has a code on the levels from any level on, and just one: bits have the same numbers exactly
 /// where they agree at these levels. The numbers of bits are a letter or a code past the end of some domain.

@@ -9,8 +9,6 @@ mod field;
 mod laws;
 mod numbers;
 mod planning;
-#[cfg(test)]
-mod tests;
 
 pub use coding::Coding;
 pub use fault::CodeFault;

@@ -3,12 +3,12 @@
 ghost use Rattle.std.specs.Prelude.{◌≡◌, ◌<◌, ◌≤◌, length, IfOk, OnOk};
 ghost use Rattle.std.specs.List.{range_with_len};
 ghost use Rattle.name_table.specs.ScopeVars.{variable_at};
-ghost use Rattle.mv_encoding.specs.Layouts.{bits_of, bits_in};
+ghost use Rattle.name_table.specs.CodeBits.{bits_of, bits_in};
 ghost use Rattle.mv_encoding.specs.Fields.{fields_from, AllFit};
 
 use crate::field::Field;
 use bdd_ops::LevelSet;
-use name_table::{Scope, ScopeVar, code_bits};
+use name_table::{Scope, code_bits};
 use std::alloc::{AllocError, Global};
 
 /// How many values the variable at a place has.
@@ -72,26 +72,4 @@ pub(crate) fn levels_from(alloc: Global, first: u32, bits: u32) -> Result<LevelS
         levels.push(level)?;
     }
     LevelSet::of(alloc, &levels)
-}
-
-/// A copy of the scope.
-pub(crate) fn copy_of(alloc: Global, scope: &Scope) -> Result<Scope, AllocError>
-    ensures { IfOk result (λ copy. copy ≡ scope.now) }
-{
-    let mut vars = Vec::new(alloc);
-    for var in 0..scope.len() {
-        let copy = copy_at(alloc, scope, var)?;
-        vars.push(copy)?;
-    }
-    Ok(Scope::of_vars(vars))
-}
-
-// A copy of the variable at a place.
-fn copy_at(alloc: Global, scope: &Scope, var: u32) -> Result<ScopeVar, AllocError>
-    requires { var < length scope.now }
-    ensures { IfOk result (λ copy. record { name = copy.name.items; values = copy.domain } ≡ variable_at scope.now var) }
-{
-    let name = scope.name(var).unwrap().to_vec(alloc)?;
-    let domain = scope.domain(var).unwrap().clone()?;
-    Ok(ScopeVar { name, domain })
 }

@@ -1,6 +1,6 @@
 -- The place of a name in a list.
 use Rattle.std.proofs.Common.{◌≡◌, ◌<◌, ◌≤◌, ◌+◌, ◌||◌, ◌⊎◌, inl, inr, ℕ, zero, suc, Bool, true, false, not, cond, List, [], ◌∷◌, length, map, slice_get, Some, None, MatchOption, refl, sym, ◌∙◌, ap, subst, arith}
-use Rattle.std.specs.Prelude.{nat_lt}
+use Rattle.std.specs.Prelude.{nat_lt, is_some}
 use Rattle.std.specs.List.{list_any, position_or_len}
 use Rattle.std.specs.Str.{bytes_eq}
 use Rattle.std.proofs.lemmas.Bool.{false≢true}
@@ -15,8 +15,23 @@ lt_true a b h = grind (arith, nat_tests)
 lt_false : (a b : ℕ) → nat_lt a b ≡ false → b ≤ a
 lt_false a b h = grind (arith, nat_tests)
 
+pub lt_is : (a b : ℕ) → a < b → nat_lt a b ≡ true
+lt_is a b h = grind (arith, nat_tests)
+
+pub lt_is_not : (a b : ℕ) → b ≤ a → nat_lt a b ≡ false
+lt_is_not a b h = grind (arith, nat_tests)
+
+pub any_from_get : (p : List ℕ → Bool) (xs : List (List ℕ)) (k : ℕ) (x : List ℕ) → slice_get xs k ≡ Some x → p x ≡ true → list_any p xs ≡ true
+any_from_get p [] k x h q = cc
+any_from_get p (y ∷ ys) zero x h q =
+    let is : y ≡ x = cc in
+    rw (is, q) refl
+any_from_get p (y ∷ ys) (suc k) x h q =
+    let more = any_from_get p ys k x h q in
+    elim (p y) as (λ b. (b || list_any p ys) ≡ true) [ true ↦ refl | false ↦ more ]
+
 -- either no name passes the test, or the first that does stands at the place
-first_at : (p : List ℕ → Bool) (xs : List (List ℕ)) → ((length xs ≤ position_or_len p xs) × (list_any p xs ≡ false)) ⊎ ((x : List ℕ) × (slice_get xs (position_or_len p xs) ≡ Some x) × (p x ≡ true) × (position_or_len p xs < length xs))
+pub first_at : (p : List ℕ → Bool) (xs : List (List ℕ)) → ((length xs ≤ position_or_len p xs) × (list_any p xs ≡ false)) ⊎ ((x : List ℕ) × (slice_get xs (position_or_len p xs) ≡ Some x) × (p x ≡ true) × (position_or_len p xs < length xs))
 first_at p [] = inl (omega arith, refl)
 first_at p (x ∷ xs) =
     let rest = first_at p xs in
@@ -30,6 +45,18 @@ first_at p (x ∷ xs) =
                 inr (h.0, ap (slice_get (x ∷ xs)) next ∙ h.1, h.2, omega (arith, h.3))
           ]
     ] refl
+
+-- a name has a place where it is there
+pub has_place : (names : List (List ℕ)) (name : List ℕ) → is_some (place_of names name) ≡ is_in names name
+has_place names name =
+    elim (first_at (bytes_eq name) names) [
+      | inl h ↦
+          ap (λ b. is_some (cond b (Some (position_or_len (bytes_eq name) names)) None)) (lt_is_not _ _ h.0)
+          ∙ sym h.1
+      | inr h ↦
+          ap (λ b. is_some (cond b (Some (position_or_len (bytes_eq name) names)) None)) (lt_is _ _ h.3)
+          ∙ sym (any_from_get (bytes_eq name) names (position_or_len (bytes_eq name) names) h.0 h.1 h.2)
+    ]
 
 -- a name without a place isn't there
 pub absent : (names : List (List ℕ)) (name : List ℕ) → place_of names name ≡ None → is_in names name ≡ false

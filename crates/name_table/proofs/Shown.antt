@@ -1,8 +1,8 @@
 -- What the keys and entries of the tables show, and tests on them.
-use Rattle.std.proofs.Common.{◌≡◌, ◌<◌, ◌+◌, ◌||◌, ◌&&◌, ℕ, Bool, true, false, not, cond, if◌then◌else◌, List, [], ◌∷◌, ◌++◌, length, get_or, map, position, slice_get, Some, None, refl, sym, ◌∙◌, ap, arith, length-append}
+use Rattle.std.proofs.Common.{◌≡◌, ◌<◌, ◌≤◌, ◌+◌, ◌||◌, ◌&&◌, ℕ, Bool, true, false, not, cond, if◌then◌else◌, List, [], ◌∷◌, ◌++◌, length, get_or, map, position, slice_get, Some, None, refl, sym, ◌∙◌, ap, arith, length-append}
 use Rattle.std.specs.Prelude.{nat_lt, option_map}
 use Rattle.std.specs.Cmp.Lexicographic.{pointwise}
-use Rattle.std.specs.List.{list_any, position_or_len}
+use Rattle.std.specs.List.{position_or_len, AllByRecursion}
 use Rattle.std.specs.Map.{keys_of}
 use Rattle.std.specs.Str.{bytes_eq}
 use Rattle.std.proofs.lemmas.Bool.{false≢true}
@@ -10,26 +10,13 @@ use Rattle.std.proofs.lemmas.List.{length-map}
 use Rattle.std.proofs.lemmas.Option.{slice_get-get_or, slice_get-map}
 use Rattle.indexmap.specs.IndexMap.{insert_entry}
 use Rattle.std.proofs.lemmas.Slice.Eq.{slice_eq-Decides, bytes_eq-Decides}
-use Rattle.name_table.specs.Variables.{Variable, IsTable, names_of, are_different, are_same, with_name, is_in, place_of}
+use Rattle.name_table.specs.Variables.{Variable, IsTable, names_of, are_different, are_same, is_in, place_of}
 use Rattle.name_table.proofs.Apart.{different_push}
 
 module _ {K : Type 0} where
-  pub any_of_map : (ks : List K) (f : K → List ℕ) (p : List ℕ → Bool) → list_any (λ k. p (f k)) ks ≡ list_any p (map f ks)
-  any_of_map [] f p = refl
-  any_of_map (k ∷ ks) f p = ap (λ b. p (f k) || b) (any_of_map ks f p)
-
   pub map_push : {X : Type 0} (ks : List K) (f : K → X) (k : K) → map f (ks ++ k ∷ []) ≡ map f ks ++ f k ∷ []
   map_push [] f k = refl
   map_push (x ∷ ks) f k = ap (λ xs. f x ∷ xs) (map_push ks f k)
-
-  -- what the keys show after a key was added
-  pub shown_with : (ks : List K) (k : K) (f : K → List ℕ) → map f (if list_any (λ x. bytes_eq (f k) (f x)) ks then ks else ks ++ k ∷ []) ≡ with_name (map f ks) (f k)
-  shown_with ks k f =
-      ap (λ b. map f (if b then ks else ks ++ k ∷ [])) (any_of_map ks f (bytes_eq (f k)))
-      ∙ elim (is_in (map f ks) (f k)) as (λ b. map f (if b then ks else ks ++ k ∷ []) ≡ (if b then map f ks else map f ks ++ f k ∷ [])) [
-        | true ↦ refl
-        | false ↦ map_push ks f k
-      ]
 
   same_of_map : (xs ys : List K) (f : K → List ℕ) → pointwise (λ x y. bytes_eq (f x) (f y)) xs ys ≡ are_same (map f xs) (map f ys)
   same_of_map [] [] f = refl
@@ -90,10 +77,15 @@ shown_after es es' k w f vars e v h =
     ∙ (shown_push es k w f (ap (λ s. is_in (names_of s) (f k)) v ∙ h)
     ∙ ap (λ s. s ++ record { name = f k; values = w } ∷ []) v)
 
-pub IsTable-push : (vars : List Variable) (v : Variable) → IsTable vars → length vars < 4096 → is_in (names_of vars) v.name ≡ false → IsTable (vars ++ v ∷ [])
-IsTable-push vars v h room fresh = record {
+small_push : (vars : List Variable) (v : Variable) → AllByRecursion (λ u. length u.values ≤ 65536) vars → length v.values ≤ 65536 → AllByRecursion (λ u. length u.values ≤ 65536) (vars ++ v ∷ [])
+small_push [] v all small = (small, tt)
+small_push (u ∷ vars) v all small = (all.0, small_push vars v all.1 small)
+
+pub IsTable-push : (vars : List Variable) (v : Variable) → IsTable vars → length vars < 4096 → is_in (names_of vars) v.name ≡ false → length v.values ≤ 65536 → IsTable (vars ++ v ∷ [])
+IsTable-push vars v h room fresh small = record {
   few = omega (arith, length-append vars (v ∷ []), room);
   different = ap are_different (map_push vars (λ v. v.name) v) ∙ different_push (names_of vars) v.name h.different fresh;
+  small = small_push vars v h.small small;
 }
 
 -- what an item at a place shows stands at that place

@@ -1,7 +1,7 @@
 use Rattle.std.specs.Prelude.{◌≡◌, ◌<◌, ◌≤◌, ℕ, Bool, true, ◌&&◌, not, List, [], ◌∷◌, ◌++◌, length, map, position, slice_get, Option, Some, MatchOption, if◌then◌else◌, decimal}
 use Rattle.std.specs.Str.{bytes_eq}
 use Rattle.std.specs.Cmp.Lexicographic.{pointwise}
-use Rattle.std.specs.List.{list_any, range_with_len}
+use Rattle.std.specs.List.{list_any, range_with_len, AllByRecursion}
 
 -- A variable has a name and a domain, the list of its value names. A value is a place in that list.
 pub record Variable : Type 0 where
@@ -43,10 +43,11 @@ pub record IsDomain (names : List (List ℕ)) : Type 0 where
   pub few : length names ≤ 131072
   pub different : are_different names ≡ true
 
--- variables that a table can have: not too many, and no two of one name
+-- variables that a table can have: not too many, no two of one name, and none with too many values
 pub record IsTable (vars : List Variable) : Type 0 where
   pub few : length vars ≤ 4096
   pub different : are_different (names_of vars) ≡ true
+  pub small : AllByRecursion (λ v. length v.values ≤ 65536) vars
 
 -- variables that a scope can have: not too many, and no two of one name
 pub record IsScope (vars : List Variable) : Type 0 where

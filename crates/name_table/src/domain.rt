@@ -1,12 +1,13 @@
 //! A domain is a list of different value names, and a value is a place in that list.
 
-ghost use Rattle.std.specs.Prelude.{◌≡◌, ◌<◌, ◌≤◌, ◌↔◌, ℕ, List, length, map, slice_get, IsTrue, IfOk, IfErr, OnOk, MatchOption, false, decimal};
-ghost use Rattle.std.specs.Option.{option_copied};
+ghost use Rattle.std.specs.Prelude.{◌≡◌, ◌<◌, ◌≤◌, ◌↔◌, ℕ, List, length, map, slice_get, Some, IsTrue, IfOk, IfErr, OnOk, MatchOption, false, decimal};
 ghost use Rattle.name_table.specs.Causes.{DomainRefused, NumberRefused};
 ghost use Rattle.name_table.specs.Variables.{IsDomain, place_of, are_different, numbers};
 
 use crate::fault::DomainFault;
 use crate::name_set::NameSet;
+use crate::number::{is_written, number_named};
+use crate::value_name::ValueName;
 use std::alloc::{AllocError, Global};
 use std::marker::Model;
 use std::rc::Rc;
@@ -14,21 +15,29 @@ use std::rc::Rc;
 /// The most names of a domain: the joint actions of two files always fit.
 const MOST_VALUES: usize = 131_072;
 
-/// A domain. Copies share one list of names, so a copy costs nothing.
+/// A domain. It is a count alone where its names are numbers that were asked for by their count, and else keeps its
+/// names, in one list for all its copies; so a copy costs nothing.
 #[derive(Drop)]
 pub struct Domain {
-    shared: Rc<NameSet>,
+    values: Values,
+}
+
+#[derive(Drop)]
+enum Values {
+    Numbered(u32),
+    Named(Rc<NameSet>),
 }
 
 impl Model for Domain {
     ghost use Rattle.std.specs.Prelude.{ℕ, List};
+    ghost use Rattle.name_table.specs.DomainValues.{names_told};
     ghost use Rattle.name_table.specs.Variables.{IsDomain};
 
     ghost Value = { List (List ℕ) };
 
-    ghost view = { λ d. d.shared.value };
+    ghost view = { λ d. names_told d.values };
 
-    ghost invariant = { λ d. IsDomain d.shared.value };
+    ghost invariant = { λ d. IsDomain (names_told d.values) };
 }
 
 impl Clone for Domain {
@@ -37,8 +46,11 @@ impl Clone for Domain {
     ghost is_clone = { λ domain copy. copy ≡ domain };
 
     fn clone(&self) -> Result<Domain, AllocError> {
-        let shared = self.shared.clone()?;
-        Ok(Domain { shared })
+        let values = match &self.values {
+            Values::Numbered(count) => Values::Numbered(*count),
+            Values::Named(names) => Values::Named(names.clone()?),
+        };
+        Ok(Domain { values })
     }
 }
 
@@ -59,12 +71,23 @@ impl Domain {
         if set.len() > MOST_VALUES {
             return Err(DomainFault::TooMany);
         }
-        let domain = Domain::shared(alloc, set)?;
+        let domain = Domain::named(alloc, set)?;
         Ok(domain)
     }
 
-    /// The domain of `n` values that are named by their numbers, 0, 1 and so on in decimal.
-    pub fn numbered(alloc: Global, n: u32) -> Result<Domain, DomainFault>
+    fn named(alloc: Global, names: NameSet) -> Result<Domain, AllocError>
+        requires { IsDomain names }
+        ensures { IfOk result (λ domain. domain ≡ names) }
+    {
+        let shared = Rc::new(alloc, names)?;
+        Ok(Domain {
+            values: Values::Named(shared),
+        })
+    }
+
+    /// The domain of `n` values that are named by their numbers, 0, 1 and so on in decimal. No name is kept, so it
+    /// takes no memory.
+    pub fn numbered(_alloc: Global, n: u32) -> Result<Domain, DomainFault>
         ensures ok { IfOk result (λ domain. domain ≡ numbers n) }
         ensures good { OnOk result ((0 < n) × (n ≤ 131072)) }
         ensures refused { IfErr result (NumberRefused n) }
@@ -75,17 +98,17 @@ impl Domain {
         if n as usize > MOST_VALUES {
             return Err(DomainFault::TooMany);
         }
-        let set = set_of_numbers(alloc, n)?;
-        let domain = Domain::shared(alloc, set)?;
-        Ok(domain)
+        Ok(Domain::counted(n))
     }
 
-    fn shared(alloc: Global, names: NameSet) -> Result<Domain, AllocError>
-        requires { IsDomain names }
-        ensures { IfOk result (λ domain. domain ≡ names) }
+    fn counted(n: u32) -> Domain
+        requires some { 0 < n }
+        requires few { n ≤ 131072 }
+        ensures { result ≡ numbers n }
     {
-        let shared = Rc::new(alloc, names)?;
-        Ok(Domain { shared })
+        Domain {
+            values: Values::Numbered(n),
+        }
     }
 
     /// How many values there are.
@@ -93,29 +116,90 @@ impl Domain {
         ensures len { result ≡ length self.now }
         ensures good { IsDomain self.now }
     {
-        self.shared.len() as u32
+        match &self.values {
+            Values::Numbered(count) => *count,
+            Values::Named(names) => names.len() as u32,
+        }
     }
 
     /// The name of a value.
-    pub fn name(&self, value: u32) -> Option<&[u8]>
-        ensures { option_copied result ≡ slice_get self.now value }
+    pub fn name(&self, value: u32) -> Option<ValueName<'_>>
+        ensures { result ≡ slice_get self.now value }
     {
-        self.shared.get(value as usize)
+        match &self.values {
+            Values::Numbered(count) => name_below(*count, value),
+            Values::Named(names) => {
+                let name = names.get(value as usize)?;
+                Some(ValueName::kept(name))
+            }
+        }
     }
 
-    /// The value of a name. It is found by its hash.
+    /// The value of a name. A count reads the number, and names that are kept are searched by their order.
     pub fn value_index(&self, name: &[u8]) -> Option<u32>
         ensures { result ≡ place_of self.now name.now }
     {
-        let place = self.shared.find(name)?;
-        Some(place as u32)
+        match &self.values {
+            Values::Numbered(count) => number_named(*count, name),
+            Values::Named(names) => {
+                let place = names.find(name)?;
+                Some(place as u32)
+            }
+        }
     }
 
-    /// Whether the two are the same names in the same order.
+    /// Whether the two are the same names in the same order. Two counts are compared as numbers.
     pub fn is_same(&self, other: &Domain) -> bool
         ensures { IsTrue result ↔ (self.now ≡ other.now) }
     {
-        self.shared.is_same(&other.shared)
+        match (&self.values, &other.values) {
+            (Values::Numbered(count), Values::Numbered(other)) => count == other,
+            (Values::Numbered(count), Values::Named(names)) => are_numbers(names, *count),
+            (Values::Named(names), Values::Numbered(count)) => are_numbers(names, *count),
+            (Values::Named(names), Values::Named(others)) => is_list(names, others),
+        }
+    }
+}
+
+fn name_below<'a>(count: u32, value: u32) -> Option<ValueName<'a>>
+    ensures { result ≡ slice_get (numbers count) value }
+{
+    if value < count {
+        Some(ValueName::number(value))
+    } else {
+        None
+    }
+}
+
+// Whether the two are the same lists.
+fn is_list(names: &NameSet, others: &NameSet) -> bool
+    ensures { IsTrue result ↔ (names.now ≡ others.now) }
+{
+    names.is_same(others)
+}
+
+// Whether the names are the numbers below the count.
+fn are_numbers(names: &NameSet, count: u32) -> bool
+    ensures { IsTrue result ↔ (names.now ≡ numbers count) }
+{
+    if names.len() != count as usize {
+        return false;
+    }
+    for value in 0..count {
+        if !is_number(names, value) {
+            return false;
+        }
+    }
+    true
+}
+
+// Whether the name at a place is that number.
+fn is_number(names: &NameSet, value: u32) -> bool
+    ensures { IsTrue result ↔ (slice_get names.now value ≡ Some (decimal value)) }
+{
+    match names.get(value as usize) {
+        Some(name) => is_written(value, name),
+        None => false,
     }
 }
 
@@ -133,22 +217,4 @@ fn set_of(alloc: Global, names: Vec<Vec<u8>>) -> Result<Option<NameSet>, AllocEr
         }
     }
     Ok(Some(set))
-}
-
-fn set_of_numbers(alloc: Global, n: u32) -> Result<NameSet, AllocError>
-    ensures { IfOk result (λ set. set ≡ numbers n) }
-{
-    let mut set = NameSet::new(alloc);
-    for number in 0..n {
-        let name = decimal_name(alloc, number)?;
-        set.add(name)?;
-    }
-    Ok(set)
-}
-
-fn decimal_name(alloc: Global, number: u32) -> Result<Vec<u8>, AllocError>
-    ensures { IfOk result (λ name. name.items ≡ decimal number) }
-{
-    let text = number.to_string(alloc)?;
-    Ok(text.into_bytes())
 }

@@ -7,10 +7,10 @@ mod domain;
 mod fault;
 mod name_set;
 mod names;
+mod number;
 mod scope;
 mod scope_var;
-#[cfg(test)]
-mod tests;
+mod value_name;
 
 pub use bits::code_bits;
 pub use domain::Domain;
@@ -20,3 +20,4 @@ pub use name_set::NameSet;
 pub use names::{Names, VarId};
 pub use scope::Scope;
 pub use scope_var::ScopeVar;
+pub use value_name::ValueName;

@@ -1,25 +1,34 @@
-//! Different names in the order in which they were added, each found by its hash.
+//! Different names in the order in which they were added, each found by an order of the names.
 
-ghost use Rattle.std.specs.Prelude.{◌≡◌, ℕ, List, [], length, map, not, true, slice_get, IfOk, OnOk};
+ghost use Rattle.std.specs.Prelude.{◌≡◌, ◌++◌, ◌∷◌, ℕ, List, [], length, map, not, true, false, slice_get, IfOk, OnOk, OnErr};
 ghost use Rattle.std.specs.Option.{option_copied};
 ghost use Rattle.name_table.specs.Variables.{is_in, place_of, are_different, are_same, with_name};
 
-use indexmap::IndexSet;
 use std::alloc::{AllocError, Global};
+use std::collections::BTreeMap;
 use std::marker::Model;
 
-/// A set of names, seen as the list of them.
+/// A set of names, seen as the list of them. A name is looked up in an ordered map of the names to their places, so
+/// that no names cost more than others.
 #[derive(Drop)]
 pub struct NameSet {
-    set: IndexSet<Vec<u8>>,
+    names: Vec<Vec<u8>>,
+    places: BTreeMap<Vec<u8>, usize>,
 }
 
 impl Model for NameSet {
+    ghost use Rattle.std.specs.Prelude.{◌≡◌, ℕ, List, map, true};
+    ghost use Rattle.std.specs.BTreeMap.{get_by};
+    ghost use Rattle.std.specs.Cmp.Lexicographic.{slice_cmp};
+    ghost use Rattle.std.specs.Ordering.{nat_cmp};
+    ghost use Rattle.name_table.specs.Variables.{are_different, place_of};
+
     ghost Value = { List (List ℕ) };
 
-    ghost view = { λ s. map (λ n. n.items) s.set.keys };
+    ghost view = { λ s. map (λ n. n.items) s.names.items };
 
-    ghost invariant = { λ s. are_different (map (λ n. n.items) s.set.keys) ≡ true };
+    ghost invariant = { λ s. (are_different (map (λ n. n.items) s.names.items) ≡ true)
+        × ((name : List ℕ) → get_by (λ key. slice_cmp nat_cmp name key.items) s.places ≡ place_of (map (λ n. n.items) s.names.items) name) };
 }
 
 impl NameSet {
@@ -28,7 +37,8 @@ impl NameSet {
         ensures { result ≡ [] }
     {
         NameSet {
-            set: IndexSet::new(alloc),
+            names: Vec::new(alloc),
+            places: BTreeMap::new(alloc),
         }
     }
 
@@ -37,23 +47,52 @@ impl NameSet {
         ensures len { result ≡ length self.now }
         ensures different { are_different self.now ≡ true }
     {
-        self.set.len()
+        self.names.len()
     }
 
     /// Puts a name at the end, unless it is there, and says if it is new.
     pub fn add(&mut self, name: Vec<u8>) -> Result<bool, AllocError>
         ensures is_new { IfOk result (λ is_new. is_new ≡ not (is_in self.old name.items)) }
         ensures added { OnOk result (self.new ≡ with_name self.old name.items) }
+        ensures err { OnErr result (self.new ≡ self.old) }
     {
-        let is_new = self.set.insert(name)?;
-        Ok(is_new)
+        if self.has(name.as_slice()) {
+            return Ok(false);
+        }
+        self.push_new(name)?;
+        Ok(true)
+    }
+
+    // Whether the name is there.
+    fn has(&self, name: &[u8]) -> bool
+        ensures { result ≡ is_in self.now name.now }
+    {
+        self.find(name).is_some()
+    }
+
+    fn push_new(&mut self, name: Vec<u8>) -> Result<(), AllocError>
+        requires { is_in self.old name.items ≡ false }
+        ensures ok { OnOk result (self.new ≡ self.old ++ name.items ∷ []) }
+        ensures err { OnErr result (self.new ≡ self.old) }
+    {
+        let alloc = *self.names.allocator();
+        let key = name.as_slice().to_vec(alloc)?;
+        let place = self.names.len();
+        self.names.push(name)?;
+        match self.places.insert(key, place) {
+            Ok(_) => Ok(()),
+            Err(_) => {
+                self.names.pop();
+                Err(AllocError)
+            }
+        }
     }
 
     /// The name at a place.
     pub fn get(&self, place: usize) -> Option<&[u8]>
         ensures { option_copied result ≡ slice_get self.now place }
     {
-        let name = self.set.get_index(place)?;
+        let name = self.names.get(place)?;
         Some(name.as_slice())
     }
 
@@ -61,13 +100,13 @@ impl NameSet {
     pub fn find(&self, name: &[u8]) -> Option<usize>
         ensures { result ≡ place_of self.now name.now }
     {
-        self.set.get_index_of(name)
+        self.places.get(name).copied()
     }
 
     /// Whether both sets have the same names in the same order.
     pub fn is_same(&self, other: &NameSet) -> bool
         ensures { result ≡ are_same self.now other.now }
     {
-        self.set.as_slice() == other.set.as_slice()
+        self.names.as_slice() == other.names.as_slice()
     }
 }

@@ -92,6 +92,7 @@ impl Names {
     fn push_new(&mut self, name: Vec<u8>, domain: Domain) -> Result<(), AllocError>
         requires fresh { is_in (names_of self.old) name.items ≡ false }
         requires room { length self.old < 4096 }
+        requires few { length domain ≤ 65536 }
         ensures ok { OnOk result (self.new ≡ self.old ++ record { name = name.items; values = domain } ∷ []) }
         ensures err { OnErr result (self.new ≡ self.old) }
     {

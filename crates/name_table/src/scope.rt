@@ -29,6 +29,17 @@ impl Model for Scope {
     ghost invariant = { λ s. IsScope (map (λ v. record { name = v.name.items; values = v.domain }) s.vars.items) };
 }
 
+impl Clone for Scope {
+    ghost use Rattle.std.specs.Prelude.{◌≡◌};
+
+    ghost is_clone = { λ scope copy. copy ≡ scope };
+
+    fn clone(&self) -> Result<Scope, AllocError> {
+        let vars = self.vars.clone()?;
+        Ok(Scope { vars })
+    }
+}
+
 impl Scope {
     /// The scope of the variables of these numbers, in their order.
     pub fn of(alloc: Global, names: &Names, vars: &[VarId]) -> Result<Scope, AllocError>

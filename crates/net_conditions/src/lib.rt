@@ -9,8 +9,7 @@ mod latches;
 mod resets;
 mod signal_lists;
 mod signals;
-#[cfg(test)]
-mod tests;
+mod spreading;
 mod varying;
 
 pub use acceptance::{accepting_signal, has_acceptance, is_acceptance_met};

@@ -10,18 +10,20 @@ ghost use Rattle.net_conditions.specs.Rounds.{outputs_by, AreVarying, IsClosed};
 
 use crate::signal_lists;
 use crate::signals::Signals;
+use crate::spreading::spread;
 use net_model::{Net, Table};
 use std::alloc::{AllocError, Global};
 
-/// The signals that aren't constant. Rounds over the tables add their outputs until a round adds none. A round costs the
-/// columns of the tables, and there are at most as many rounds as signals, and one more; a network whose tables stand in
-/// the order in which signals flow takes two.
+/// The signals that aren't constant. They spread from the inputs and the latch outputs, each through the tables that read
+/// it, which takes a time that grows as the columns of all tables. Rounds over the tables then add the outputs that are
+/// missing until a round adds none, and the first finds none missing.
 pub fn varying_signals(alloc: Global, net: &Net) -> Result<Signals, AllocError>
     requires { HasKnownSignals (net_of net.now) }
     ensures { IfOk result (λ set. IsSetOf set (Varies (net_of net.now))) }
 {
     let sources = signal_lists::sources(alloc, net)?;
     let mut varying = Signals::of(alloc, net.names.len(), &sources)?;
+    spread(alloc, net, sources, &mut varying)?;
     while add_outputs(net, &mut varying) {}
     Ok(varying)
 }
@@ -44,7 +46,7 @@ fn add_outputs(net: &Net, varying: &mut Signals) -> bool
 }
 
 /// Adds the outputs of a table, where the set has one of its inputs, and says whether one of them is new.
-fn add_outputs_of(table: &Table, varying: &mut Signals) -> bool
+pub(crate) fn add_outputs_of(table: &Table, varying: &mut Signals) -> bool
     requires { All (λ v. v < length varying.old) (table_of table.now).outs }
     ensures added { Adds varying.old (outputs_by varying.old (table_of table.now)) varying.new }
     ensures grown { GrowsIf result varying.old varying.new }

@@ -1,10 +1,4 @@
 pub mod Largest
-pub mod NamesKnown
-pub mod Kept
 pub mod Letters
-pub mod Joined
-pub mod Refused
-pub mod Domains
-pub mod ScopesGood
 pub mod OneNet
 pub mod Computed

@@ -1,6 +1,5 @@
 pub mod Accepted
 pub mod Automata
-pub mod Building
 pub mod Conditions
 pub mod Equation
 pub mod Faults

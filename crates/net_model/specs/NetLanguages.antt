@@ -6,7 +6,7 @@ use Rattle.net_model.specs.Words.{Scope, Letter, Language, IsLetter}
 use Rattle.net_model.specs.Automata.{LanguageOf}
 use Rattle.net_model.specs.Nets.{Table, Net}
 use Rattle.net_model.specs.Tables.{values_at, table_holds}
-use Rattle.net_model.specs.Conditions.{latch_outputs, IsConstant, IsAutomaton}
+use Rattle.net_model.specs.Conditions.{latch_outputs, IsConstant, IsAutomaton, IsAuto}
 use Rattle.net_model.specs.NetTexts.{StandsForNet}
 
 -- What a network means: the words of its runs. A state gives a value to each latch output, in the order of the latches. A
@@ -79,6 +79,13 @@ IsAccepting net q = (signal : ℕ) → IsAutomaton net signal → AcceptsBy net 
 -- the words of its runs
 abbrev pub NetWords : Net → Language
 NetWords net = LanguageOf (IsInitial net) (Steps net) (IsAccepting net)
+
+-- the bytes stand for a network that is an automaton and has these letters
+pub record StandsForAutomaton (bytes : List ℕ) (scope : Scope) : Type 0 where
+  pub net : Net
+  pub stands : StandsForNet bytes net
+  pub automaton : IsAuto net
+  pub letters : letters_of net ≡ scope
 
 -- what a file means: its bytes stand for a network with these letters that has the word
 abbrev pub Means : List ℕ → Scope → Language

@@ -1,11 +1,11 @@
-use Rattle.std.specs.Prelude.{◌≡◌, ◌==◌, ◌&&◌, ℕ, Bool, true, false, not, List, [], ◌∷◌, ◌++◌, length, Option, Some, None, codes}
+use Rattle.std.specs.Prelude.{◌≡◌, ◌<◌, ◌==◌, ◌&&◌, ℕ, Bool, true, false, not, List, [], ◌∷◌, ◌++◌, length, Option, Some, None, codes}
 use Rattle.name_table.specs.Variables.{names_of, is_in, are_same}
-use Rattle.net_model.specs.Words.{Scope, Language}
+use Rattle.net_model.specs.Words.{Scope}
 use Rattle.net_model.specs.Parts.{actions_of}
 use Rattle.net_model.specs.Equation.{Topology}
 use Rattle.net_model.specs.Topologies.{is_named, variable_named, joint_scope, joint_actions, topology_by}
 use Rattle.net_model.specs.Nets.{Net, net_of}
-use Rattle.net_model.specs.NetLanguages.{is_automaton, letters_of, NetWords}
+use Rattle.net_model.specs.NetLanguages.{is_automaton, letters_of}
 use Rattle.net_model.specs.SoundNets.{IsSound}
 use Rattle.net_model.specs.declared.class.Mode.{Mode}
 use Rattle.net_model.specs.declared.class.Mode.TheVariants.{Sync, Parallel}
@@ -31,9 +31,6 @@ IsSoundFile (NetFile net) = IsSound net
 abbrev pub file_letters : File → Scope
 file_letters (NetFile net) = letters_of net
 
-abbrev pub FileWords : File → Language
-FileWords (NetFile net) = NetWords net
-
 -- an automaton whose letters are the values of one variable: a file of parallel mode
 abbrev pub has_one_variable : File → Bool
 has_one_variable (NetFile net) = is_automaton net && (length net.inputs == 1)
@@ -43,6 +40,14 @@ pub record Problem : Type 0 where
   pub f : File
   pub s : File
   pub topology : Topology
+
+-- these files with these scopes
+abbrev pub problem_with : Mode → File → File → Scope → Scope → ℕ → Problem
+problem_with mode f s joint x inputs = record {
+  f = f;
+  s = s;
+  topology = record { mode = mode; joint = joint; f = file_letters f; s = file_letters s; x = x; inputs = inputs };
+}
 
 -- the problem of these files, for an X with these names
 abbrev pub problem_of : Mode → File → File → List (List ℕ) → List (List ℕ) → Problem
@@ -125,3 +130,13 @@ IsRefusal (refusals.DomainDiffers name) first = first ≡ Some (DomainDiffers na
 IsRefusal (refusals.NotOneVariable slot) first = first ≡ Some (NotOneVariable slot)
 IsRefusal (refusals.LettersDiffer name) first = first ≡ Some (LettersDiffer name.items)
 IsRefusal refusals.Memory first = Unit {0}
+
+-- what every problem keeps: its files are sound, and its scopes are those of some names that are not refused
+pub record IsBuilt (problem : Problem) : Type 0 where
+  pub f_sound : IsSoundFile problem.f
+  pub s_sound : IsSoundFile problem.s
+  pub ins : List (List ℕ)
+  pub outs : List (List ℕ)
+  pub some : problem.topology.mode ≡ Parallel → 0 < length (ins ++ outs)
+  pub accepted : first_refusal problem.topology.mode problem.f problem.s ins outs ≡ None
+  pub scopes : problem ≡ problem_of problem.topology.mode problem.f problem.s ins outs

@@ -1,4 +1,4 @@
-use Rattle.std.specs.Prelude.{◌≡◌, ◌<◌, ℕ, List, [], ◌∷◌, ◌++◌, length}
+use Rattle.std.specs.Prelude.{◌<◌, ℕ, List, [], ◌∷◌, length}
 -- A variable has a name and a domain, the list of its value names. A value is a place in that list.
 pub use Rattle.name_table.specs.Variables.{Variable}
 
@@ -29,7 +29,3 @@ IsLetter (v ∷ scope) (a ∷ letter) = (a < length v.values) × IsLetter scope 
 abbrev pub IsWord : Scope → Word → Type 0
 IsWord scope [] = Unit {0}
 IsWord scope (letter ∷ word) = IsLetter scope letter × IsWord scope word
-
--- the first word is a prefix of the second
-abbrev pub IsPrefix : Word → Word → Type 0
-IsPrefix p x = (rest : Word) × (p ++ rest ≡ x)

@@ -7,21 +7,13 @@
 mod automaton;
 mod class;
 mod directive;
-mod joint;
 mod letter;
 mod letter_signals;
-mod letter_vars;
 mod listed;
-mod name_faults;
 mod name_list;
 mod net;
-mod problem;
 mod refusal;
-mod scopes;
-#[cfg(test)]
-mod tests;
 mod text_fault;
-mod x_vars;
 
 pub use class::{Class, Mode};
 pub use directive::Directive;
@@ -29,6 +21,5 @@ pub use letter::{Letter, ValueSet, Word};
 pub use listed::{Listed, ListedRow, ListedVar};
 pub use name_list::NameList;
 pub use net::{Entry, File, Latch, Net, Row, Table};
-pub use problem::Problem;
 pub use refusal::{NameRefusal, Slot};
 pub use text_fault::{TextFault, TextKind, Which};

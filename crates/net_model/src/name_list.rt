@@ -39,7 +39,7 @@ impl NameList {
     }
 
     // The names as they are kept.
-    pub(crate) fn names(&self) -> &[Vec<u8>]
+    pub fn names(&self) -> &[Vec<u8>]
         ensures { map (λ n. n.items) result.now ≡ self.now }
     {
         self.names.as_slice()

@@ -1,5 +1,7 @@
 //! Why names make no problem.
 
+use std::alloc::AllocError;
+
 /// A file of a problem, by its part in the equation.
 #[derive(Clone, Copy, Debug, PartialEq, Eq)]
 pub enum Slot {
@@ -26,4 +28,15 @@ pub enum NameRefusal {
     /// The file is no automaton of one input variable, as parallel mode wants it.
     NotOneVariable(Slot),
     Memory,
+}
+
+impl From<AllocError> for NameRefusal {
+    ghost use Rattle.std.specs.Prelude.{◌≡◌};
+    ghost use Rattle.net_model.specs.declared.refusal.NameRefusal.TheVariants.{Memory};
+
+    ghost from_gives = { λ error result. result ≡ Memory };
+
+    fn from(_error: AllocError) -> Self {
+        NameRefusal::Memory
+    }
 }

@@ -5,8 +5,6 @@
 mod laws;
 mod node;
 mod space;
-#[cfg(test)]
-mod tests;
 
 pub use laws::{equal_values_equal_refs, growth_is_transitive};
 pub use node::{MAX_LEVELS, Ref};

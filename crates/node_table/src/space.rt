@@ -1,6 +1,7 @@
 //! The table of nodes, in which each node stands once.
 
 ghost use Rattle.std.specs.Prelude.{◌≡◌, ◌+◌, ◌^◌, ◌<◌, ◌≤◌, ◌↔◌, [], length, Some, None, Err, IfOk, OnErr, IfSome, IfNone, IsNone, false, true};
+ghost use Rattle.std.specs.declared.alloc.Global.{Global};
 ghost use Rattle.node_table.specs.Table.{number_of_next, node_of, top_of, level_of, lo_of, hi_of, with_node, IsNew, FitsOn, IsTable, IsValid, IsConstant, Grows, Makes, IsRefused, IsEnd};
 
 use crate::node::{MAX_LEVELS, Node, Ref};
@@ -100,8 +101,11 @@ impl Space {
         self.limit
     }
 
-    /// The allocator of the space.
-    pub fn allocator(&self) -> Global {
+    /// The allocator of the space. There is one alone.
+    pub fn allocator(&self) -> Global
+        ensures only { (alloc : Global) → result ≡ alloc }
+        ensures table { IsTable self.now }
+    {
         *self.held.allocator()
     }
 

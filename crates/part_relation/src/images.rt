@@ -2,7 +2,7 @@
 
 ghost use Rattle.std.specs.Prelude.{◌≡◌, ◌<◌, ◌&&◌, [], length, slice_index, slice_index_or, Err, IfOk};
 ghost use Rattle.node_table.specs.Table.{value_at, IsValid, Grows};
-ghost use Rattle.bdd_ops.specs.Meaning.{StandsFor, StandsForHidden};
+ghost use Rattle.bdd_ops.specs.Meaning.{StandsFor, StandsForHidden, IsMissing, IsShort};
 ghost use Rattle.part_relation.specs.Plans.{all_hold, AreValid, Fits, named_by, part_at};
 
 use crate::parts::Parts;
@@ -59,6 +59,7 @@ pub fn lift(space: &mut Space, f: Ref, valid: Ref) -> Result<Ref, MkFault>
     ensures grows { Grows space.old space.new }
     ensures levels { space.new.levels ≡ space.old.levels }
     ensures full { result ≡ Err MkFault.Full → length space.new.nodes ≡ space.new.limit }
+    ensures needed { result ≡ Err MkFault.Full → IsMissing space.new (λ bits. value_at space.old f bits && value_at space.old valid bits) }
 {
     and(space, f, valid)
 }
@@ -70,6 +71,7 @@ pub fn hide(space: &mut Space, f: Ref, levels: &LevelSet) -> Result<Ref, MkFault
     ensures grows { Grows space.old space.new }
     ensures levels { space.new.levels ≡ space.old.levels }
     ensures full { result ≡ Err MkFault.Full → length space.new.nodes ≡ space.new.limit }
+    ensures needed { result ≡ Err MkFault.Full → IsShort space.new levels.now (λ bits. value_at space.old f bits) }
 {
     exists(space, f, levels)
 }

@@ -9,8 +9,6 @@ mod schedules;
 mod scheduling;
 mod seen;
 mod supports;
-#[cfg(test)]
-mod tests;
 
 pub use images::{hide, image, lift};
 pub use laws::plans_fit_when_spaces_grow;

@@ -184,7 +184,7 @@ letter_signals_are auto = rw (printed_is_automaton auto) refl
 pub letters_are : (auto : Listing) → letters_of (printed_net auto) ≡ auto.vars
 letters_are auto = ap (chosen_of (printed_names auto)) (letter_signals_are auto) ∙ variables_follow (printed_names auto) [] auto.vars (own_variables auto) refl
 
-is_acc_signal : (auto : Listing) → IsAutomaton (printed_net auto) (acc_place auto)
+pub is_acc_signal : (auto : Listing) → IsAutomaton (printed_net auto) (acc_place auto)
 is_acc_signal auto = (refl, ap (λ (v : Variable). v.name) (acc_variable_at auto))
 
 -- a test that passes

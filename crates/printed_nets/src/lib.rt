@@ -6,15 +6,18 @@ ghost use Rattle.std.specs.Prelude.{◌≡◌, ◌↔◌, ℕ, List};
 ghost use Rattle.net_model.specs.Words.{Word};
 ghost use Rattle.net_model.specs.Listings.{Listing, ListingWords};
 ghost use Rattle.net_model.specs.NetTexts.{StandsForNet};
-ghost use Rattle.net_model.specs.NetLanguages.{letters_of, NetWords, Means};
+ghost use Rattle.net_model.specs.NetLanguages.{letters_of, NetWords, Means, StandsForAutomaton};
 ghost use Rattle.net_model.specs.Written.{IsTextName};
 ghost use Rattle.net_model.specs.Printed.{IsPrintable, printed_text};
 ghost use Rattle.printed_nets.specs.PrintedNets.{printed_net};
 
-/// The printed text of an automaton, under any model name, stands for a network.
+/// The printed text of an automaton, under any model name, stands for a network, which is an automaton over the same
+/// letters.
 pub fn printed_texts_stand_for_networks()
-    ensures { (name : List ℕ) (auto : Listing) → IsTextName name → IsPrintable auto
+    ensures network { (name : List ℕ) (auto : Listing) → IsTextName name → IsPrintable auto
         → StandsForNet (printed_text name auto) (printed_net auto) }
+    ensures automaton { (name : List ℕ) (auto : Listing) → IsTextName name → IsPrintable auto
+        → StandsForAutomaton (printed_text name auto) auto.vars }
 {}
 
 /// That network has the automaton's letters and words.

@@ -1,8 +1,14 @@
 use Rattle.std.proofs.Common.{◌≡◌, OnOk, OnErr, subst, ◌∙◌, List, ℕ}
 use Rattle.io_core.specs.Gained.{gained, GainsFrontOf}
 use Rattle.net_model.specs.Listings.{listing_of}
-use Rattle.aut_format.proofs.Meaning.{text_means}
+use Rattle.aut_format.proofs.Meaning.{text_is_automaton, text_means}
 use Rattle.aut_format.proofs.write.write_listed.Goals as goal
+
+pub returns-in_default-clause-automaton : goal.returns-in_default-clause-automaton
+returns-in_default-clause-automaton g c = text_is_automaton (listing_of c.args.auto.now) c.requires
+
+pub returns-clause-automaton : goal.returns-clause-automaton
+returns-clause-automaton g c = text_is_automaton (listing_of c.args.auto.now) c.requires
 
 pub returns-in_default-clause-meaning : goal.returns-in_default-clause-meaning
 returns-in_default-clause-meaning g c = text_means (listing_of c.args.auto.now) c.requires

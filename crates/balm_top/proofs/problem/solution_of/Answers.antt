@@ -1,9 +1,9 @@
 use Rattle.std.proofs.Common.{◌≡◌, ◌<◌, ◌≤◌, ◌++◌, ℕ, List, Some, length, inl, inr, refl, sym, ◌∙◌, subst, arith, rules, length-append}
 use Rattle.io_core.specs.Files.{Files}
 use Rattle.net_model.specs.Nets.{net_of}
-use Rattle.balm_top.specs.Jobs.{IsJob, job_of}
+use Rattle.job_words.specs.Jobs.{IsJob, job_of}
+use Rattle.job_files.specs.Reads.{StopsAtFile}
 use Rattle.balm_top.specs.Refusals.{AreRead}
-use Rattle.balm_top.specs.Stops.{StopsAtFile}
 use Rattle.balm_top.proofs.Stopped.{stops_at_file}
 use Rattle.balm_top.proofs.Reading.{solves_rightly, stops_rightly}
 use Rattle.balm_top.proofs.problem.solution_of.Goals as goal
@@ -36,7 +36,7 @@ returns-clause-solved g c =
     let job_is : IsJob c.args.words.now job = search rules in
     let read : (files : Files) → shelf.holds c.args.shelf.now ≡ Some files → AreRead c.args.words.now files job f s =
     λ files held. record { job_is = job_is; f_read = c.in-Ok.ensures.ok files held; s_read = c.in-Ok-read_file.ensures.ok files (c.read_file.ensures.kept ∙ held) } in
-    solves_rightly c.args.words.now (shelf.holds c.args.shelf.now) job f s read c.solve.result c.solve.ensures.printable c.solve.ensures.solved
+    solves_rightly c.args.words.now (shelf.holds c.args.shelf.now) job job_is f s read c.solve.result c.solve.ensures.printable c.solve.ensures.solved
 
 pub returns-clause-stopped : goal.returns-clause-stopped
 returns-clause-stopped g c =
@@ -47,4 +47,4 @@ returns-clause-stopped g c =
     let job_is : IsJob c.args.words.now job = search rules in
     let read : (files : Files) → shelf.holds c.args.shelf.now ≡ Some files → AreRead c.args.words.now files job f s =
     λ files held. record { job_is = job_is; f_read = c.in-Ok.ensures.ok files held; s_read = c.in-Ok-read_file.ensures.ok files (c.read_file.ensures.kept ∙ held) } in
-    stops_rightly c.args.words.now (shelf.holds c.args.shelf.now) job f s read (shelf.faults c.args.shelf.now) (shelf.faults c.read_file-2.new.shelf) c.solve.result c.solve.ensures.stopped
+    stops_rightly c.args.words.now (shelf.holds c.args.shelf.now) job job_is f s read (shelf.faults c.args.shelf.now) (shelf.faults c.read_file-2.new.shelf) c.solve.result c.solve.ensures.stopped

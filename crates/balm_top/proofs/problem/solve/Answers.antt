@@ -9,7 +9,7 @@ use Rattle.net_model.specs.Problems.{NetFile, first_refusal, problem_of}
 use Rattle.net_model.specs.Topologies.{joint_scope, variable_named}
 use Rattle.net_model.specs.Written.{IsTextVariable}
 use Rattle.net_model.specs.declared.class.Mode.TheVariants.{Sync}
-use Rattle.balm_top.specs.Jobs.{job_of}
+use Rattle.job_words.specs.Jobs.{job_of}
 use Rattle.balm_top.specs.Work.{IsFreeName}
 use Rattle.balm_top.proofs.GoodNames.{x_text, x_free}
 use Rattle.balm_top.proofs.Worked.{net_held, solved_by}

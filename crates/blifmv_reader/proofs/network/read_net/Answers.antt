@@ -10,7 +10,7 @@ use Rattle.blifmv_reader.proofs.Signals.{table_said}
 use Rattle.blifmv_reader.proofs.Sound.{sound_net}
 use Rattle.blifmv_reader.proofs.Stands.{known_net, said_net, fit_net, stands_net}
 use Rattle.net_model.proofs.OneNet.{one_net}
-use Rattle.blifmv_reader.proofs.TextNames.{text_variables}
+use Rattle.blifmv_reader.proofs.TextNames.{text_variables, text_small}
 use Rattle.blifmv_reader.specs.Told.{FindsNetFault}
 use Rattle.blifmv_reader.proofs.Told.{names_refused, rows_refused, signal_found, refused_in, taken_in}
 use Rattle.blifmv_reader.proofs.network.read_net.Goals as goal
@@ -18,7 +18,8 @@ use Rattle.blifmv_reader.proofs.network.read_net.Goals as goal
 -- src/network.rt:28:5
 pub check_signals-requires-clause-known : goal.check_signals-requires-clause-known
 check_signals-requires-clause-known c =
-    known_net (text_in c.args.bytes.now) c.in_ok-names.names (net_of c.in_ok-net.net) (table_said (text_in c.args.bytes.now) c.in_ok-names.names c.in_ok-names.ensures.names c.in_ok-names.ensures.few) c.in_ok-names.ensures.names c.in_ok-net.ensures.net
+    known_net (text_in c.args.bytes.now) c.in_ok-names.names (net_of c.in_ok-net.net) (table_said (text_in c.args.bytes.now) c.in_ok-names.names c.in_ok-names.ensures.names c.in_ok-names.ensures.few
+    (text_small c.args.bytes.now (text_in c.args.bytes.now) c.in_ok-names.ensures.lines (text_faultless c.args.bytes.now c.in_ok-names.ensures.fault).within)) c.in_ok-names.ensures.names c.in_ok-net.ensures.net
 
 -- src/network.rt:28:5
 pub check_signals-requires-clause-said : goal.check_signals-requires-clause-said
@@ -37,7 +38,8 @@ returns-in-Ok-clause-only c = λ other. one_net c.args.bytes.now (net_of c.in_ok
 -- src/network.rt:20:1
 pub returns-in-Ok-clause-sound : goal.returns-in-Ok-clause-sound
 returns-in-Ok-clause-sound c =
-    sound_net (text_in c.args.bytes.now) c.in_ok-names.names (net_of c.in_ok-net.net) (table_said (text_in c.args.bytes.now) c.in_ok-names.names c.in_ok-names.ensures.names c.in_ok-names.ensures.few)
+    sound_net (text_in c.args.bytes.now) c.in_ok-names.names (net_of c.in_ok-net.net) (table_said (text_in c.args.bytes.now) c.in_ok-names.names c.in_ok-names.ensures.names c.in_ok-names.ensures.few
+    (text_small c.args.bytes.now (text_in c.args.bytes.now) c.in_ok-names.ensures.lines (text_faultless c.args.bytes.now c.in_ok-names.ensures.fault).within))
     (text_variables c.args.bytes.now (text_in c.args.bytes.now) c.in_ok-names.ensures.lines (text_faultless c.args.bytes.now c.in_ok-names.ensures.fault).within) c.in_ok-names.ensures.names c.in_ok-net.ensures.rows c.in_ok-net.ensures.net c.in-Ok.ensures.conditions
 
 -- src/network.rt:27:5

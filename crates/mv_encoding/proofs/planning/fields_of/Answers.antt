@@ -1,7 +1,7 @@
 use Rattle.std.proofs.Common.{◌≡◌, ◌<◌, ◌+◌, ◌++◌, ◌∙◌, ℕ, length, drop, ap, subst, inl, inr, arith}
 use Rattle.std.proofs.lemmas.Bool.{cases_lt}
 use Rattle.mv_encoding.specs.declared.field.Field.{Field}
-use Rattle.mv_encoding.specs.Layouts.{bits_in}
+use Rattle.name_table.specs.CodeBits.{bits_in}
 use Rattle.mv_encoding.specs.Fields.{field_at, fields_from, FitsIn}
 use Rattle.mv_encoding.proofs.Places.{before-next, before-within, field-fits, fields-next}
 use Rattle.mv_encoding.proofs.planning.fields_of.Goals as goal

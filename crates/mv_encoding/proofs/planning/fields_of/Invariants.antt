@@ -1,5 +1,6 @@
 use Rattle.std.proofs.Common.{◌≡◌, ◌++◌, ◌<◌, ◌≤◌, ℕ, drop}
-use Rattle.mv_encoding.specs.Layouts.{bits_in, bits_before}
+use Rattle.name_table.specs.CodeBits.{bits_in}
+use Rattle.mv_encoding.specs.Layouts.{bits_before}
 use Rattle.mv_encoding.specs.Fields.{field_at, fields_from, FitsIn}
 use Rattle.mv_encoding.proofs.planning.fields_of.Given as goal
 

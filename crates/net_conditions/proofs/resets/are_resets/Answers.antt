@@ -10,14 +10,14 @@ returns-then-not-is_reset c =
     not_all_images table_of (IsReset (net_of c.args.net.now)) c.args.net.now.resets.items c.loop-table.table-index c.table-item.result c.is_reset.result
     (omega (arith, ap length c.deref-table-items.ensures.value))
     (c.table-item.is ∙ ap (λ tables. get_or tables c.loop-table.table-index c.table-item.result) c.deref-table-items.ensures.value)
-    (c.is_reset.ensures (net_of c.args.net.now) c.in_ok-varying.ensures c.in_ok-states.ensures) c.if-not-is_reset.true
+    (c.is_reset.ensures.reset (net_of c.args.net.now) c.in_ok-varying.ensures c.in_ok-states.ensures) c.if-not-is_reset.true
 
 pub loop-table-preserved : goal.loop-table-preserved
 loop-table-preserved c =
     All-images_more table_of (IsReset (net_of c.args.net.now)) c.args.net.now.resets.items c.loop-table.table-index c.table-item.result c.is_reset.result
     (omega (arith, ap length c.deref-table-items.ensures.value))
     (c.table-item.is ∙ ap (λ tables. get_or tables c.loop-table.table-index c.table-item.result) c.deref-table-items.ensures.value)
-    (c.is_reset.ensures (net_of c.args.net.now) c.in_ok-varying.ensures c.in_ok-states.ensures) c.if-not-is_reset.false c.loop-table.invariant
+    (c.is_reset.ensures.reset (net_of c.args.net.now) c.in_ok-varying.ensures c.in_ok-states.ensures) c.if-not-is_reset.false c.loop-table.invariant
 
 pub returns : goal.returns
 returns c =

@@ -10,8 +10,8 @@ of-requires c =
     are_below (length c.args.net.now.names) c.len.result (map (λ v. v.0) c.deref.result.now) ((net_of c.args.net.now).inputs ++ latch_outputs (net_of c.args.net.now))
     c.len.ensures.len (ap (map (λ v. v.0)) c.deref.ensures.value ∙ c.in_ok-sources.ensures) (sources_known (net_of c.args.net.now) c.requires)
 
-pub loop-init : goal.loop-init
-loop-init c =
+pub spread-requires-clause-varying : goal.spread-requires-clause-varying
+spread-requires-clause-varying c =
     varying_first (net_of c.args.net.now) c.len.result (map (λ v. v.0) c.deref.result.now) c.in_ok-varying.varying c.len.ensures.len
     (ap (map (λ v. v.0)) c.deref.ensures.value ∙ c.in_ok-sources.ensures) c.in_ok-varying.ensures
 

@@ -1,5 +1,8 @@
-use Rattle.part_relation.proofs.Free.{fits-grow}
+use Rattle.part_relation.proofs.Free.{fits-grow, parts-grow}
 use Rattle.part_relation.proofs.laws.plans_fit_when_spaces_grow.Goals as goal
 
-pub returns : goal.returns
-returns c = fits-grow c.args.before.now c.args.after.now c.requires.grown c.args.parts.now c.args.plan.now c.requires.parts c.requires.plan
+pub returns-clause-parts : goal.returns-clause-parts
+returns-clause-parts c before after parts grow valid = parts-grow before after grow parts valid
+
+pub returns-clause-plans : goal.returns-clause-plans
+returns-clause-plans c before after parts plan grow valid fits = fits-grow before after grow parts plan valid fits

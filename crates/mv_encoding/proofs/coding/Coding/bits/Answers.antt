@@ -1,6 +1,6 @@
 use Rattle.std.proofs.Common.{◌∙◌, length, ap, arith}
 use Rattle.std.proofs.lemmas.List.FromFn.{length-range_with_len}
-use Rattle.mv_encoding.specs.Layouts.{bits_in}
+use Rattle.name_table.specs.CodeBits.{bits_in}
 use Rattle.mv_encoding.proofs.coding.Coding.bits.Goals as goal
 
 pub returns-clause-bits : goal.returns-clause-bits

@@ -3,7 +3,7 @@ use Rattle.std.proofs.lemmas.List.{take_all}
 use Rattle.bdd_ops.specs.Words.{bit_of}
 use Rattle.mv_encoding.specs.declared.field.Field.{Field}
 use Rattle.mv_encoding.specs.Layouts.{number_at, numbers_at}
-use Rattle.mv_encoding.proofs.Letters.{letter-length, letter-value, code-next, rest-next}
+use Rattle.mv_encoding.proofs.Letters.{letter-length, letter-value, code-next, rest-next, code-laid}
 use Rattle.mv_encoding.proofs.coding.Coding.code_of.Goals as goal
 
 pub index-value-requires : goal.index-value-requires
@@ -41,3 +41,6 @@ returns-clause-numbers c =
     ap (λ vs. numbers_at vs 0 (bit_of c.loop-var.code)) (sym (take_all c.loop-var.var c.args.self.now.scope end))
     ∙ c.loop-var.invariant.numbers
     ∙ take_all c.loop-var.var c.args.letter.now.values.items (omega (arith, size, end))
+
+pub returns-clause-laid : goal.returns-clause-laid
+returns-clause-laid c = code-laid c.args.self.now c.args.letter.now.values.items (bit_of c.loop-var.code) (returns-clause-numbers c)

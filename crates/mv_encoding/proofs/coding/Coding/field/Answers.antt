@@ -1,6 +1,7 @@
 use Rattle.std.proofs.Common.{◌<◌, ◌∙◌, length, get_or, sym, ap, subst, arith}
 use Rattle.mv_encoding.specs.declared.field.Field.{Field}
-use Rattle.mv_encoding.specs.Layouts.{Layout, bits_in}
+use Rattle.name_table.specs.CodeBits.{bits_in}
+use Rattle.mv_encoding.specs.Layouts.{Layout}
 use Rattle.mv_encoding.specs.Fields.{field_at, FitsIn}
 use Rattle.mv_encoding.proofs.Places.{length-fields, field-is}
 use Rattle.mv_encoding.proofs.coding.Coding.field.Goals as goal

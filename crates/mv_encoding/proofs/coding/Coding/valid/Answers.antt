@@ -1,29 +1,46 @@
-use Rattle.std.proofs.Common.{◌≡◌, ◌<◌, ◌≤◌, ◌+◌, ◌-◌, ◌∙◌, ℕ, length, ap, arith}
-use Rattle.node_table.proofs.Growth.{grows-trans}
-use Rattle.mv_encoding.specs.Fields.{level_of}
-use Rattle.mv_encoding.proofs.Letters.{valid-next}
-use Rattle.mv_encoding.proofs.Places.{before-prev}
+use Rattle.std.proofs.Common.{◌-◌, ◌∙◌, length, sym, ap, subst, arith}
+use Rattle.std.proofs.lemmas.List.FromFn.{length-range_with_len}
+use Rattle.std.proofs.lemmas.Result.{IfOk-weaker}
+use Rattle.name_table.specs.CodeBits.{bits_in}
+use Rattle.node_table.specs.Table.{Table}
+use Rattle.bdd_ops.specs.Meaning.{StandsFor}
+use Rattle.mv_encoding.specs.Fields.{AllFit}
+use Rattle.mv_encoding.specs.Layouts.{Layout, numbers_of, is_letter}
+use Rattle.mv_encoding.specs.Sets.{StandsForSet}
+use Rattle.mv_encoding.proofs.Letters.{no-bits-letter, set-of-letters}
 use Rattle.mv_encoding.proofs.coding.Coding.valid.Goals as goal
 
-pub codes_below-requires-clause-below : goal.codes_below-requires-clause-below
-codes_below-requires-clause-below c =
-    let first = ap (λ l. l.first) c.self.view_is in
-    let view = ap (λ l. length l.scope) c.self.view_is in
-    let before = ap (λ f. f.before) c.field-field.ensures.is in
-    let bits = ap (λ f. f.bits) c.field-field.ensures.is in
-    let end : c.loop-var.var ≤ length c.args.self.now.scope = omega (arith, view, c.len-var.ensures.len, c.loop-var.auto.var) in
-    let prev = before-prev c.args.self.now.scope c.loop-var.var c.loop-var-test.true end in
-    omega (arith, first, before, bits, prev, c.loop-var.invariant.stands.top)
+pub codes_of_letters-requires : goal.codes_of_letters-requires
+codes_of_letters-requires c =
+    let some = c.if-len-eq0.false in
+    let all =
+    ap length c.self.invariant.levels_are
+    ∙ length-range_with_len c.self.inside.first (bits_in c.self.inside.scope)
+    ∙ ap (λ l. bits_in l.scope) c.self.view_is in
+    let last = c.requires (bits_in c.args.self.now.scope - 1) (omega (arith, some, c.len.ensures.len, all)) in
+    omega (arith, some, c.len.ensures.len, all, last)
 
-pub loop-var-preserved : goal.loop-var-preserved
-loop-var-preserved c =
-    let view = ap (λ l. length l.scope) c.self.view_is in
-    let var : ℕ = c.loop-var.var - 1 in
-    let known : var < length c.args.self.now.scope = omega (arith, view, c.len-var.ensures.len, c.loop-var.auto.var, c.loop-var-test.true) in
-    let next : c.loop-var.var ≡ var + 1 = omega (arith, c.loop-var-test.true) in
-    let level : c.self.inside.first + c.field-field.result.before ≡ level_of c.args.self.now var = λ i. (c.self.view_is i).first + (c.field-field.ensures.is i).before in
+pub returns-then-len-eq0-clause-ok : goal.returns-then-len-eq0-clause-ok
+returns-then-len-eq0-clause-ok c =
+    let all =
+    ap length c.self.invariant.levels_are
+    ∙ length-range_with_len c.self.inside.first (bits_in c.self.inside.scope)
+    ∙ ap (λ l. bits_in l.scope) c.self.view_is in
+    let P : Layout → Type 0 = λ l. AllFit l.scope in
+    let fit = subst P c.self.view_is c.self.invariant.all_fit in
     record {
-      stands = valid-next c.args.self.now var c.loop-var.var (c.self.inside.first + c.field-field.result.before) c.field-field.result known next level c.field-field.ensures.is c.loop-var.invariant.stands c.in_ok-codes.ensures.ok;
-      grows = grows-trans _ _ _ c.loop-var.invariant.grows c.in_ok-codes.ensures.grows;
-      levels = c.in_ok-codes.ensures.levels ∙ c.loop-var.invariant.levels;
+      valid = c.one.ensures.valid;
+      value = λ b.
+          c.one.ensures.value b
+          ∙ sym (no-bits-letter c.args.self.now.scope c.args.self.now.first b (omega (arith, c.if-len-eq0.true, c.len.ensures.len, all)) (λ var known. (fit var known).some));
     }
+
+pub returns-then-len-eq0-clause-letters : goal.returns-then-len-eq0-clause-letters
+returns-then-len-eq0-clause-letters c = set-of-letters c.args.space.now c.args.self.now c.one.result (returns-then-len-eq0-clause-ok c)
+
+pub returns-clause-letters : goal.returns-clause-letters
+returns-clause-letters c =
+    let new : Table = c.codes_of_letters.new.space in
+    IfOk-weaker c.codes_of_letters.result (λ r. StandsFor new r (λ b. is_letter c.args.self.now.scope (numbers_of c.args.self.now b))) (λ r. StandsForSet new c.args.self.now r (λ letter. Unit {0}))
+    (λ r s. set-of-letters new c.args.self.now r s)
+    c.codes_of_letters.ensures.ok

@@ -6,5 +6,5 @@ pub returns : goal.returns
 returns c =
     c.eq.ensures
     ∙ shown_same c.as_slice.result.now c.as_slice-2.result.now (λ n. n.items) _ _
-    (ap (λ keys. map (λ n. n.items) keys) c.as_slice.ensures.keys ∙ c.self.view_is)
-    (ap (λ keys. map (λ n. n.items) keys) c.as_slice-2.ensures.keys ∙ c.other.view_is)
+    (ap (λ names. map (λ n. n.items) names) c.as_slice.ensures.value ∙ c.self.view_is)
+    (ap (λ names. map (λ n. n.items) names) c.as_slice-2.ensures.value ∙ c.other.view_is)

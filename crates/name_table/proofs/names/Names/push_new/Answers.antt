@@ -9,7 +9,7 @@ invariant_of-self-2 c =
     c.in_ok-insert.ensures.entries c.self.view_is c.requires.fresh in
     subst IsTable (sym after)
     (IsTable-push c.args.self.now (record { name = c.args.name.items; values = c.args.domain })
-    (subst IsTable c.self.view_is c.self.invariant) c.requires.room c.requires.fresh)
+    (subst IsTable c.self.view_is c.self.invariant) c.requires.room c.requires.fresh c.requires.few)
 
 pub returns-clause-ok : goal.returns-clause-ok
 returns-clause-ok c =

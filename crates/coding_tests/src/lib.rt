@@ -1,0 +1,5 @@
+//! Tests of the codings of letters.
+#![tactic(auto)]
+
+#[cfg(test)]
+mod codings;

@@ -1,8 +1,0 @@
-use Rattle.std.proofs.Common.{refl}
-use Rattle.std.specs.List.{IsDistinct}
-use Rattle.name_table.proofs.tests.chooses_variables.Goals as goal
-
--- 1 and 0 differ
-pub of-requires-clause-different : goal.of-requires-clause-different
-unfolding IsDistinct
-of-requires-clause-different g c = ((refl, tt), (tt, tt))
