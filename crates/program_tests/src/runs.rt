@@ -9,6 +9,7 @@ use std::alloc::{AllocError, Global};
 pub const AMPLE: usize = 10_000;
 
 /// The open words of a job of `solve`.
+#[derive(Clone, Copy)]
 pub struct Job {
     pub f: &'static str,
     pub s: &'static str,
