@@ -24,7 +24,7 @@ same-above half m n =
 same-below : (m n : ℕ) → (0 + m == 0 + n) ≡ (m == n)
 same-below m n = same-above 0 m n
 
-spells : (half m n : ℕ) (x bit : Bool) → m < half → n < half → ((if x then half else 0) + m == (if bit then half else 0) + n) ≡ (if x then (if bit then m == n else false) else (if bit then false else m == n))
+pub spells : (half m n : ℕ) (x bit : Bool) → m < half → n < half → ((if x then half else 0) + m == (if bit then half else 0) + n) ≡ (if x then (if bit then m == n else false) else (if bit then false else m == n))
 spells half m n true true p q = same-above half m n
 spells half m n true false p q = ne_eqb (half + m) (0 + n) (λ e. omega (arith, e, p, q))
 spells half m n false true p q = ne_eqb (0 + m) (half + n) (λ e. omega (arith, e, p, q))

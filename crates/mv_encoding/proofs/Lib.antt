@@ -4,3 +4,5 @@ pub mod Letters
 pub mod Places
 pub mod Chains
 pub mod Missing
+pub mod Apart
+pub mod Alike

@@ -1,3 +1,4 @@
 pub mod Layouts
 pub mod Sets
+pub mod Spots
 pub mod Fields

@@ -79,6 +79,13 @@ impl Coding {
         self.levels.len()
     }
 
+    /// The first level of a letter.
+    pub fn first(&self) -> u32
+        ensures { result ≡ self.now.first }
+    {
+        self.first
+    }
+
     /// The levels of a letter, in the order of its bits.
     pub fn levels(&self) -> &LevelSet
         ensures { result.now ≡ levels_of self.now }

@@ -9,7 +9,9 @@ mod field;
 mod laws;
 mod numbers;
 mod planning;
+mod spots;
 
 pub use coding::Coding;
 pub use fault::CodeFault;
-pub use laws::codes_are_of_letters;
+pub use laws::{apart_codes_are_of_values, codes_are_of_letters};
+pub use spots::{all_values, same_number};
