@@ -1,11 +1,11 @@
 -- Few actions: those of a file's variables, those of both files, and those of X.
-use Rattle.std.proofs.Common.{◌≡◌, ◌<◌, ◌≤◌, ℕ, zero, suc, true, List, [], ◌∷◌, length, refl, sym, ◌∙◌, ap, subst, arith}
+use Rattle.std.proofs.Common.{◌≡◌, ◌≤◌, ℕ, zero, suc, true, List, [], ◌∷◌, length, arith}
 use Rattle.std.specs.Prelude.{not, filter}
 use Rattle.std.specs.List.{AllByRecursion, list_all}
 use Rattle.std.proofs.lemmas.List.{length-append}
 use Rattle.std.proofs.lemmas.List.Sums.{length-filter, count_by-le-length}
 use Rattle.name_table.specs.ScopeVars.{variable_at, chosen_of}
-use Rattle.name_table.specs.Variables.{Variable, is_in, are_different}
+use Rattle.name_table.specs.Variables.{is_in, are_different}
 use Rattle.net_model.specs.Words.{Scope}
 use Rattle.net_model.specs.Parts.{actions_of}
 use Rattle.net_model.specs.Topologies.{joint_actions}

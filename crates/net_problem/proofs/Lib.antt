@@ -5,3 +5,5 @@ pub mod Few
 pub mod Refused
 pub mod Domains
 pub mod ScopesGood
+pub mod BitSums
+pub mod LetterSignals

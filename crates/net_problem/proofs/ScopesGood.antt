@@ -38,7 +38,7 @@ names_good mode known ins outs none =
     (all_both (is_in known) ins outs inputs.all_known outputs.all_known, different_both ins outs inputs.different outputs.different outputs.apart)
 
 -- the variable of a name that is there has this name
-named_so : (vars : Scope) (name : List ℕ) → is_named vars name ≡ true → (variable_named vars name).name ≡ name
+pub named_so : (vars : Scope) (name : List ℕ) → is_named vars name ≡ true → (variable_named vars name).name ≡ name
 named_so [] name there = absurd (false≢true there)
 named_so (v ∷ vars) name there =
     elim (bytes_eq v.name name) as (λ b. bytes_eq v.name name ≡ b → (b || is_named vars name) ≡ true → (if b then v else variable_named vars name).name ≡ name) [

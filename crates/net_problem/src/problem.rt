@@ -1,8 +1,11 @@
 //! A problem: two files, and the scopes of their equation.
 
-ghost use Rattle.std.specs.Prelude.{◌≡◌, ◌<◌, ◌++◌, None, length, IfOk, IfErr};
+ghost use Rattle.std.specs.Prelude.{◌≡◌, ◌<◌, ◌≤◌, ◌++◌, None, length, IfOk, IfErr};
+ghost use Rattle.std.specs.Option.{option_map};
 ghost use Rattle.net_model.specs.Problems.{file_of, problem_of, first_refusal, IsBuilt, IsSoundFile, IsRefusal};
+ghost use Rattle.net_problem.specs.ProblemBits.{joint_bits, third_bits, problem_bits};
 
+use crate::bit_counts::{bits_of_file, bits_of_letter};
 use crate::scopes::{joint_of_files, scope_of, x_of_names};
 use name_table::Scope;
 use net_model::{File, Mode, NameList, NameRefusal};
@@ -103,5 +106,35 @@ impl Problem {
         ensures { result ≡ self.now.topology.inputs }
     {
         self.inputs
+    }
+
+    /// How many bits its letters, signals and states have together, with a third file, which is X's in a check. A variable
+    /// of n values has the least number b of bits with 2^b >= n. A latch counts twice, for its present and its next value. A
+    /// signal that is a letter or a latch output doesn't count again, and a name that stands in an `.mv` line alone counts
+    /// as a signal. In parallel mode the variables of the files count as the joint one, and X's letter counts besides.
+    pub fn bits(&self, third: Option<&File>) -> u64
+        ensures bits { result ≡ problem_bits self.now (option_map (λ file. file_of file.now) third.entry) }
+    {
+        self.letter_bits() + bits_of_file(&self.f) + bits_of_file(&self.s) + bits_of_third(third)
+    }
+
+    fn letter_bits(&self) -> u64
+        ensures bits { result ≡ joint_bits self.now.topology }
+        ensures few { result ≤ 1048576 }
+    {
+        match self.mode {
+            Mode::Sync => bits_of_letter(self.joint()),
+            Mode::Parallel => bits_of_letter(self.joint()) + bits_of_letter(self.x()),
+        }
+    }
+}
+
+fn bits_of_third(third: Option<&File>) -> u64
+    ensures bits { result ≡ third_bits (option_map (λ file. file_of file.now) third.entry) }
+    ensures few { result ≤ 262144 }
+{
+    match third {
+        Some(file) => bits_of_file(file),
+        None => 0,
     }
 }

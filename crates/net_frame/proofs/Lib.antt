@@ -1,0 +1,17 @@
+pub mod Among
+pub mod Gathered
+pub mod Latched
+pub mod Summed
+pub mod JointLevels
+pub mod JointNames
+pub mod LetterSpots
+pub mod Beside
+pub mod SharedNames
+pub mod Grounds
+pub mod OwnPlaces
+pub mod Pairwise
+pub mod Standing
+pub mod BackMaps
+pub mod BackLevels
+pub mod Fitting
+pub mod Laid

@@ -1,0 +1,27 @@
+use Rattle.std.proofs.Common.{◌≡◌, ◌∙◌, ap, arith}
+use Rattle.std.proofs.lemmas.Result.{IfOk-weaker}
+use Rattle.name_table.specs.ScopeVars.{variable_at}
+use Rattle.net_model.specs.Nets.{net_of}
+use Rattle.mv_encoding.specs.Spots.{spot_of}
+use Rattle.net_frame.specs.Frames.{own_spot}
+use Rattle.net_frame.proofs.Summed.{levelled}
+use Rattle.net_frame.proofs.latches.present_code.Goals as goal
+
+pub bounds-before-output : goal.bounds-before-output
+bounds-before-output c = (levelled (net_of c.args.net.now) c.args.start c.args.output.0 c.args.before.now c.requires.before c.requires.output c.requires.room).there
+
+pub overflow_add-level : goal.overflow_add-level
+overflow_add-level c =
+    let low = (levelled (net_of c.args.net.now) c.args.start c.args.output.0 c.args.before.now c.requires.before c.requires.output c.requires.room).low in
+    omega (arith, low)
+
+pub code_of_signal-requires-clause-low : goal.code_of_signal-requires-clause-low
+code_of_signal-requires-clause-low c =
+    let low = (levelled (net_of c.args.net.now) c.args.start c.args.output.0 c.args.before.now c.requires.before c.requires.output c.requires.room).low in
+    omega (arith, low)
+
+pub returns : goal.returns
+returns c =
+    let is = (levelled (net_of c.args.net.now) c.args.start c.args.output.0 c.args.before.now c.requires.before c.requires.output c.requires.room).is in
+    IfOk-weaker c.code_of_signal.result _ (λ code. code ≡ own_spot (net_of c.args.net.now) c.args.start c.args.output.0)
+    (λ code made. made ∙ ap (spot_of (variable_at c.args.net.now.names c.args.output.0)) is) c.code_of_signal.ensures

@@ -1,0 +1,10 @@
+pub mod Spelled
+pub mod Found
+pub mod Written
+pub mod Added
+pub mod Projected
+pub mod LatchList
+pub mod PlacedNet
+pub mod Related
+pub mod StateSets
+pub mod OneTable

@@ -1,0 +1,4 @@
+pub mod Spelled
+pub mod Sides
+pub mod Known
+pub mod Kept

@@ -1,0 +1,3 @@
+pub mod TableParts
+pub mod Columns
+pub mod Held
