@@ -1,6 +1,6 @@
 use Rattle.std.specs.Prelude.{ℕ, List, codes}
 use Rattle.balm_bench.specs.declared.layer.Layer.{Layer}
-use Rattle.balm_bench.specs.declared.layer.Layer.TheVariants.{Lines, Names, Nodes, Interleaved, Blocked, Rows, Domains, Collisions}
+use Rattle.balm_bench.specs.declared.layer.Layer.TheVariants.{Lines, Names, Nodes, Interleaved, Blocked, Rows, Domains, Collisions, Counts, Valued}
 
 -- the word that names a layer
 abbrev pub name_of : Layer → List ℕ
@@ -12,3 +12,5 @@ name_of Blocked = codes "blocked"
 name_of Rows = codes "rows"
 name_of Domains = codes "domains"
 name_of Collisions = codes "collisions"
+name_of Counts = codes "counts"
+name_of Valued = codes "valued"

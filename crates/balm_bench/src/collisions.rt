@@ -8,7 +8,7 @@
 ghost use Rattle.std.specs.Prelude.{◌≡◌, ◌+◌, ◌<◌, ◌≤◌, min, vec_len, IfOk, OnOk};
 
 use crate::fault::Fault;
-use crate::texts::read_network;
+use crate::texts::{push_number, read_network, up_to};
 use name_table::VarId;
 use std::alloc::{AllocError, Global};
 use std::fmt;
@@ -44,7 +44,7 @@ const ENDINGS: &[u8] =
     b"0000008OZz0A2r60F2dN0Fg7E0HlHm0JrNM0SYJC0UcFa0cuOu0gMJK0jMsK11Xn014ywf19JBj1H2d41LR3j1LhvF1S0Ep1ZNwI1gM3x1k6V51oeBh1vue728bfj2AB2d2Any62VEBw2ZEgQ2h3A62wLBE2yW9u3GMZm3olEE3tY32409r54Oqev4SC6U4eb054fSw851Jhm5ADSW5JSX55Pmzg5TzCh5ZGxt5c7b95iq4S68DYk6DnDI6SRmy6bQNr6dBOk6easX6el086jEgJ6tstG74hkQ77idY78FRz78LTI7BRHh7MuyX7XPEk7XvSj7lQff7wPnL8ERo18RIVl8Rhvd8sRsf99Ffa9GByN9IaDO9PKje9SRdh9UlcI9blNi9jJBl9oIbz9ofAc9p5ok9surX9tTj79wCleA6nAXAHx5dANpooAOdQQAPhC6AQQl7ATkg7AZ0qAAkVBwAmx87BH1q0BQD1RBStR6BnOpCBqaueBz3KxC752wC7lK9C9JscCD20SCHvVsCaXSwCbXmeCllElCuqQHCwnRlD2JziD9aQCDBYHeDQmGGDT7YZDXKbpDbN76Dtx0AE7PxnEH7bPEgM2vEp4TnEqwmGEs06VF16MEFHB6SFL2lqFLDqWFNeacFb5eFFds6dFeY0TFfBNXGCTxpGDfSLGNG0XGWdPzGb6HqGj4pXH3PbGHEEaAHGAVtHKgliHRsDkHWGDoHZahfHf2XIHkhTHHxIvvI0gQiI5RQqI8k7xIJ3EtILp0dIbbvmItEnaJYwFBJbYqLJk26SJme4NJuKSBK15lHK36vyKHstJKK6z0KUC6dKaDuaKb4JFKqI8YKr7A2KuPk7KvI5oLD0BaLRAzcLRpGSLZamZLhl8TLmtI2LqSlGLwa86LxZxFM9USQMIHW4MIJz7MZ4X4MlXXwN5nXaNAWQsNEgXHNM4KANNfRLNVI1HNYY6zNdQ4dNlNfANvZgcOEKSNOFf7LOOm2WOXfDkOkltZOsfOzP6WpYPCplLPG5bSPLmbxPMH7SPQkWMPSeLLPVmAdPWEEUPpPslPvJi4Pvn3iPwgdIPzCLJQAR0YQGyN4QHO1zQQsIPQaAeGQf6TkR4qSrR6iyjR8NkmR9soXRBlifREnoTRNaCPRUMyFRVPG5RYhUVRZJreRbbeZRisvTS4ZRdSGcRASOI0aSqq8QSwCBFSyfjXTBzyUTEYagTMemlTPzu9TRoM8TbhKjTgwM7TicHUTkPmyU34XTU5bNmUFLqUUOVdcUQ7KR";
 
 /// What was counted of the network.
-#[derive(Clone, Copy, Debug, PartialEq, Eq)]
+#[derive(Drop)]
 pub struct CollisionCounts {
     pub names: u32,
     /// The values of the first name.
@@ -67,7 +67,7 @@ pub fn count_collisions(alloc: Global, size: u32) -> Result<CollisionCounts, Fau
     if size > MOST_VALUES {
         return Err(Fault::TooManyValues);
     }
-    let wanted = names_for(size);
+    let wanted = up_to(size, MOST_NAMES);
     let text = collisions_text(alloc, wanted, size)?;
     let net = read_network(alloc, text.as_slice())?;
     let domain = net.names.domain(VarId(0)).ok_or(Fault::Differs)?;
@@ -81,13 +81,6 @@ pub fn count_collisions(alloc: Global, size: u32) -> Result<CollisionCounts, Fau
     Ok(counts)
 }
 
-// How many names there are beside so many values.
-fn names_for(size: u32) -> u32
-    ensures { result ≡ min size MOST_NAMES }
-{
-    if size < MOST_NAMES { size } else { MOST_NAMES }
-}
-
 // The text of a network with so many inputs, to the first of which a line gives so many values.
 fn collisions_text(alloc: Global, names: u32, values: u32) -> Result<Vec<u8>, AllocError>
     requires names { names ≤ MOST_VALUES }
@@ -99,15 +92,15 @@ fn collisions_text(alloc: Global, names: u32, values: u32) -> Result<Vec<u8>, Al
     push_colliding(&mut text, names)?;
     text.extend_from_slice(b"\n.mv")?;
     push_colliding(&mut text, 1)?;
-    let count = format!(in alloc; " {values}")?;
-    text.extend_from_slice(count.as_bytes())?;
+    text.push(b' ')?;
+    push_number(alloc, &mut text, values)?;
     push_colliding(&mut text, values)?;
     text.extend_from_slice(b"\n.end\n")?;
     Ok(text)
 }
 
-// Puts so many names at the end of a text, a space before each.
-fn push_colliding(text: &mut Vec<u8>, size: u32) -> Result<(), AllocError>
+/// Puts so many names at the end of a text, a space before each.
+pub(crate) fn push_colliding(text: &mut Vec<u8>, size: u32) -> Result<(), AllocError>
     requires { size ≤ MOST_VALUES }
     ensures { OnOk result (vec_len text.old + size ≤ vec_len text.new) }
 {
@@ -118,8 +111,8 @@ fn push_colliding(text: &mut Vec<u8>, size: u32) -> Result<(), AllocError>
     Ok(())
 }
 
-// Puts the name with this number at the end of a text.
-fn push_name(text: &mut Vec<u8>, number: u32) -> Result<(), AllocError>
+/// Puts the name with this number at the end of a text.
+pub(crate) fn push_name(text: &mut Vec<u8>, number: u32) -> Result<(), AllocError>
     requires { number < MOST_VALUES }
     ensures { OnOk result (vec_len text.old ≤ vec_len text.new) }
 {

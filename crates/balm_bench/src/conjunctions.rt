@@ -26,7 +26,7 @@ const MOST_INTERLEAVED: u32 = MAX_LEVELS / 2;
 const MOST_BLOCKED: u32 = 23;
 
 /// What was counted of a space.
-#[derive(Clone, Copy, Debug, PartialEq, Eq)]
+#[derive(Drop)]
 pub struct ConjunctionCounts {
     pub levels: u32,
     pub held: u64,
@@ -43,7 +43,7 @@ impl fmt::Display for ConjunctionCounts {
 }
 
 /// Where the levels of the pairs stand.
-#[derive(Clone, Copy, Debug, PartialEq, Eq)]
+#[derive(Clone, Copy)]
 pub enum Order {
     /// Each x stands just above its y.
     Interleaved,

@@ -12,7 +12,7 @@ use std::fmt;
 const VALUES: u64 = 65_536;
 
 /// What was counted of the network.
-#[derive(Clone, Copy, Debug, PartialEq, Eq)]
+#[derive(Drop)]
 pub struct DomainCounts {
     pub names: u32,
     /// The values of each name, all together.
@@ -57,8 +57,8 @@ fn domains_text(alloc: Global, size: u32) -> Result<Vec<u8>, AllocError>
     Ok(text)
 }
 
-// How many values the names of a table have together, where it can be told.
-fn values_of(names: &Names) -> Option<u64>
+/// How many values the names of a table have together, where it can be told.
+pub(crate) fn values_of(names: &Names) -> Option<u64>
     ensures { IfSome result (λ count. count ≡ sum_by length (map (λ v. v.values) names.now)) }
 {
     let mut count: u64 = 0;

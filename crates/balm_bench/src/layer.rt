@@ -7,7 +7,7 @@ ghost use Rattle.balm_bench.specs.LayerNames.{name_of};
 use std::fmt;
 
 /// A layer whose cost is shown.
-#[derive(Clone, Copy, Debug, PartialEq, Eq)]
+#[derive(Clone, Copy)]
 pub enum Layer {
     /// The logical lines and words of a text.
     Lines,
@@ -32,10 +32,16 @@ pub enum Layer {
 
     /// The text of a network whose names collide in each map.
     Collisions,
+
+    /// The names of a network, each with another count of values.
+    Counts,
+
+    /// The text of a network with many named values, and rows that name them.
+    Valued,
 }
 
 impl Layer {
-    const ALL: [Layer; 8] = [
+    const ALL: [Layer; 10] = [
         Layer::Lines,
         Layer::Names,
         Layer::Nodes,
@@ -44,6 +50,8 @@ impl Layer {
         Layer::Rows,
         Layer::Domains,
         Layer::Collisions,
+        Layer::Counts,
+        Layer::Valued,
     ];
 
     /// The word that names it.
@@ -59,6 +67,8 @@ impl Layer {
             Layer::Rows => "rows",
             Layer::Domains => "domains",
             Layer::Collisions => "collisions",
+            Layer::Counts => "counts",
+            Layer::Valued => "valued",
         }
     }
 
@@ -83,7 +93,7 @@ impl fmt::Display for Layer {
 }
 
 /// A layer, and how large its work is to be.
-#[derive(Clone, Copy, Debug, PartialEq, Eq)]
+#[derive(Clone, Copy)]
 pub struct Job {
     pub layer: Layer,
     pub size: u32,

@@ -18,7 +18,7 @@ const ROW: &[u8] = b"(0,1) - 1 0 1\n";
 const TAIL: &[u8] = b".end\n";
 
 /// What was read of a text.
-#[derive(Clone, Copy, Debug, PartialEq, Eq)]
+#[derive(Drop)]
 pub struct LineCounts {
     pub lines: u64,
     pub words: u64,

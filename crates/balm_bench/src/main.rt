@@ -12,6 +12,8 @@ mod names;
 mod nodes;
 mod table_rows;
 mod texts;
+mod value_counts;
+mod valued;
 
 ghost use Rattle.std.specs.Prelude.{◌<◌, vec_len, IfOk};
 
@@ -23,7 +25,7 @@ use std::rt::Env;
 
 /// What is told of words that name no jobs.
 const USAGE: &str =
-    "usage: balm_bench LAYER SIZE .. (a layer is lines, names, nodes, interleaved, blocked, rows, domains or collisions)";
+    "usage: balm_bench LAYER SIZE .. (a layer is lines, names, nodes, interleaved, blocked, rows, domains, collisions, counts or valued)";
 
 fn main(rt: HostRuntime) -> Result<()> {
     let words = words(&rt, rt.alloc())?;
@@ -85,6 +87,11 @@ fn run(rt: &impl Print, alloc: Global, job: &Job) -> Result<()> {
             "collisions {size}: {}",
             collisions::count_collisions(alloc, size)?
         )?,
+        Layer::Counts => println!(rt;
+            "counts {size}: {}",
+            value_counts::count_counts(alloc, size)?
+        )?,
+        Layer::Valued => println!(rt; "valued {size}: {}", valued::count_valued(alloc, size)?)?,
     }
     Ok(())
 }

@@ -1,17 +1,17 @@
 //! The layer of names: a table of names that share one numbered domain, each looked up again, and each value too.
 
-ghost use Rattle.std.specs.Prelude.{◌≡◌, ◌*◌, ◌++◌, ◌≤◌, length, min, codes, decimal, string_bytes, IfOk};
+ghost use Rattle.std.specs.Prelude.{◌≡◌, ◌*◌, ◌++◌, ◌≤◌, length, codes, decimal, string_bytes, IfOk};
 
 use crate::fault::Fault;
-use name_table::{Domain, Names, VarId};
+use name_table::{Domain, NameFault, Names, VarId};
 use std::alloc::{AllocError, Global};
 use std::fmt;
 
-/// The most values of the shared domain.
-const MOST_VALUES: u32 = 65_536;
+/// The most names of a table.
+const MOST_NAMES: u32 = 4_096;
 
 /// What was found in a table of names.
-#[derive(Clone, Copy, Debug, PartialEq, Eq)]
+#[derive(Drop)]
 pub struct NameCounts {
     pub names: u32,
     pub values: u32,
@@ -25,11 +25,14 @@ impl fmt::Display for NameCounts {
     }
 }
 
-/// Makes a table of so many names, and counts the names and values that are found in it.
+/// Makes a table of so many names, which share one domain of 16 values a name, and counts the names and values that are found in it.
 pub fn count_names(alloc: Global, size: u32) -> Result<NameCounts, Fault>
     ensures names { IfOk result (λ counts. counts.names ≡ size) }
-    ensures values { IfOk result (λ counts. counts.values ≡ min (16 * size) MOST_VALUES) }
+    ensures values { IfOk result (λ counts. counts.values ≡ 16 * size) }
 {
+    if size > MOST_NAMES {
+        return Err(Fault::Name(NameFault::TooManyVars));
+    }
     let values = values_for(size);
     let domain = Domain::numbered(alloc, values)?;
     let names = table_of(alloc, size, &domain)?;
@@ -43,15 +46,12 @@ pub fn count_names(alloc: Global, size: u32) -> Result<NameCounts, Fault>
     Ok(counts)
 }
 
-// How many values the shared domain has: 16 for each name, up to a bound.
-fn values_for(size: u32) -> u32
-    ensures { result ≡ min (16 * size) MOST_VALUES }
+// How many values the shared domain of so many names has.
+fn values_for(names: u32) -> u32
+    requires { names ≤ MOST_NAMES }
+    ensures { result ≡ 16 * names }
 {
-    if size < MOST_VALUES / 16 {
-        16 * size
-    } else {
-        MOST_VALUES
-    }
+    16 * names
 }
 
 /// The name of a variable.

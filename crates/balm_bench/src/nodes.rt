@@ -13,7 +13,7 @@ use std::alloc::Global;
 use std::fmt;
 
 /// What was counted of a space.
-#[derive(Clone, Copy, Debug, PartialEq, Eq)]
+#[derive(Drop)]
 pub struct NodeCounts {
     pub held: u64,
     pub peak: u64,

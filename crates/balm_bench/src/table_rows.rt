@@ -12,7 +12,7 @@ use std::fmt;
 const NAMES: u32 = 5;
 
 /// What was counted of the network.
-#[derive(Clone, Copy, Debug, PartialEq, Eq)]
+#[derive(Drop)]
 pub struct RowCounts {
     pub rows: u64,
     pub names: u32,

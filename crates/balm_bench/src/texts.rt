@@ -1,6 +1,6 @@
-//! What the layers of networks' texts share: lists of names, and the reading of a text.
+//! What the layers of networks' texts share: names and numbers in a text, and the reading of a text.
 
-ghost use Rattle.std.specs.Prelude.{◌≡◌, ◌+◌, ◌≤◌, vec_len, IfOk, OnOk};
+ghost use Rattle.std.specs.Prelude.{◌≡◌, ◌+◌, ◌<◌, ◌≤◌, min, vec_len, IfOk, OnOk};
 ghost use Rattle.net_model.specs.NetTexts.{text_in, net_said};
 ghost use Rattle.net_model.specs.Nets.{net_of};
 
@@ -32,8 +32,35 @@ pub(crate) fn push_names(
         if number > 0 {
             text.push(between)?;
         }
-        let name = name_of(alloc, number)?;
-        text.extend_from_slice(name.as_bytes())?;
+        push_variable(alloc, text, number)?;
     }
     Ok(())
+}
+
+/// Puts the name of a variable at the end of a text.
+pub(crate) fn push_variable(
+    alloc: Global,
+    text: &mut Vec<u8>,
+    number: u32,
+) -> Result<(), AllocError>
+    ensures { OnOk result (vec_len text.old < vec_len text.new) }
+{
+    let name = name_of(alloc, number)?;
+    text.extend_from_slice(name.as_bytes())
+}
+
+/// Puts a number at the end of a text.
+pub(crate) fn push_number(alloc: Global, text: &mut Vec<u8>, number: u32) -> Result<(), AllocError>
+    ensures { OnOk result (vec_len text.old ≤ vec_len text.new) }
+{
+    let digits = number.to_string(alloc)?;
+    text.extend_from_slice(digits.as_bytes())
+}
+
+/// A size, up to a bound.
+pub(crate) fn up_to(size: u32, most: u32) -> u32
+    ensures least { result ≡ min size most }
+    ensures few { result ≤ most }
+{
+    if size <= most { size } else { most }
 }

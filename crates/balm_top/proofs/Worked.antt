@@ -1,5 +1,5 @@
 use Rattle.std.proofs.Common.{◌≡◌, ◌≢◌, ◌↔◌, ◌<◌, ◌≤◌, ◌*◌, ◌^◌, ◌++◌, ℕ, zero, suc, List, [], ◌∷◌, length, map, IsTrue, MatchBool, refl, sym, ap, subst, ◌∙◌, arith}
-use Rattle.std.specs.Prelude.{Result, Ok, Err, IfOk}
+use Rattle.std.specs.Prelude.{Result, Ok, Err, IfOk, IfErr, OnErr}
 use Rattle.std.specs.declared.alloc.AllocError.{AllocError}
 use Rattle.std.specs.List.{AllByRecursion}
 use Rattle.name_table.specs.Variables.{names_of}
@@ -16,8 +16,10 @@ use Rattle.listed_solve.specs.declared.solve.Solution.{Solution}
 use Rattle.net_model.specs.Topologies.{joint_scope, variable_named}
 use Rattle.net_model.specs.Problems.{NetFile}
 use Rattle.job_words.specs.Jobs.{Job}
+use Rattle.fault_lines.specs.declared.stop.Stop.{Stop}
+use Rattle.fault_lines.specs.declared.stop.Stop.TheVariants.{Memory}
 use Rattle.balm_top.specs.Refusals.{topology_of}
-use Rattle.balm_top.specs.Stops.{IsSolved}
+use Rattle.balm_top.specs.Stops.{IsSolved, IsWorkable, StopsWork}
 use Rattle.balm_top.specs.Work.{IsFreeName, IsTopologyOf}
 
 -- What the listing of two networks says of their equation.
@@ -101,3 +103,30 @@ solved_by job f s f' s' joint x solution f_is s_is joint_is x_is letters exact v
           subst (λ g. P g s) f_is (subst (λ t. P f' t) s_is (exact topology over word));
       verdict = verdict;
     }
+
+-- what holds of a solution holds of the one that is answered
+pub kept_solution : (found : Result Solution AllocError) (result : Result Solution Stop) (P : Solution → Type 0) → IfOk result (λ solution. found ≡ Ok solution) → IfOk found P → IfOk result P
+kept_solution found (Ok solution) P is holds = subst (λ r. IfOk r P) is holds
+kept_solution found (Err stop) P is holds = tt
+
+-- want of memory is a stop of the work
+pub stopped_for_memory : (job : Job) (f s : Net) (result : Result Solution Stop) → OnErr result (result ≡ Err Memory) → IfErr result (StopsWork job f s)
+stopped_for_memory job f s (Ok solution) is = tt
+stopped_for_memory job f s (Err stop) is = subst (λ r. IfErr r (StopsWork job f s)) (sym is) tt
+
+-- the same of what is answered
+pub solved_if : (job : Job) (f s f' s' : Net) (joint x : Scope) (found : Result Solution AllocError) (result : Result Solution Stop) → f' ≡ f → s' ≡ s → joint ≡ joint_scope (letters_of f) (letters_of s) → x ≡ map (variable_named (joint_scope (letters_of f) (letters_of s))) (job.ins ++ job.outs)
+    → IfOk result (λ solution. found ≡ Ok solution)
+    → IfOk found (λ solution. (listing_of solution.auto).vars ≡ x)
+    → IfOk found (λ solution. (topology : Topology) → IsTopologyOf topology joint x f' s' → (word : Word) → ListingWords (listing_of solution.auto) word ↔ IsSafe topology (NetWords f') (NetWords s') word)
+    → IfOk found (λ solution. MatchBool solution.has_word ((word : Word) × ListingWords (listing_of solution.auto) word) ((word : Word) → ListingWords (listing_of solution.auto) word → ⊥))
+    → IsWorkable job f s
+    → IfOk result (λ solution. IsWorkable job f s × IsSolved (topology_of job (letters_of f) (letters_of s)) f s solution)
+solved_if job f s f' s' joint x found (Ok solution) f_is s_is joint_is x_is is letters exact verdict workable = (
+  workable,
+  solved_by job f s f' s' joint x solution f_is s_is joint_is x_is
+      (subst (λ r. IfOk r (λ solution. (listing_of solution.auto).vars ≡ x)) is letters)
+      (subst (λ r. IfOk r (λ solution. (topology : Topology) → IsTopologyOf topology joint x f' s' → (word : Word) → ListingWords (listing_of solution.auto) word ↔ IsSafe topology (NetWords f') (NetWords s') word)) is exact)
+      (subst (λ r. IfOk r (λ solution. MatchBool solution.has_word ((word : Word) × ListingWords (listing_of solution.auto) word) ((word : Word) → ListingWords (listing_of solution.auto) word → ⊥))) is verdict),
+)
+solved_if job f s f' s' joint x found (Err stop) f_is s_is joint_is x_is is letters exact verdict workable = tt

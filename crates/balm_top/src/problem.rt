@@ -1,6 +1,6 @@
 //! From the words to the solution: every step that may refuse, in its order.
 
-ghost use Rattle.std.specs.Prelude.{◌≡◌, ◌↔◌, map, IsTrue, IfOk, IfErr, MatchBool};
+ghost use Rattle.std.specs.Prelude.{◌≡◌, ◌↔◌, map, Ok, Err, IsTrue, IfOk, IfErr, OnErr, MatchBool};
 ghost use Rattle.std.specs.List.{AllByRecursion};
 ghost use Rattle.name_table.specs.Variables.{names_of, are_different};
 ghost use Rattle.net_model.specs.Words.{Word};
@@ -9,11 +9,12 @@ ghost use Rattle.net_model.specs.Listings.{ListingWords, listing_of};
 ghost use Rattle.net_model.specs.Nets.{net_of};
 ghost use Rattle.net_model.specs.NetLanguages.{letters_of, NetWords};
 ghost use Rattle.net_model.specs.Printed.{IsPrintable};
+ghost use Rattle.net_model.specs.Problems.{NetFile, problem_of};
 ghost use Rattle.net_model.specs.SoundNets.{IsSound};
 ghost use Rattle.net_model.specs.Written.{IsTextVariable};
 ghost use Rattle.listed_nets.specs.Small.{IsSmall};
 ghost use Rattle.job_words.specs.Jobs.{job_of};
-ghost use Rattle.balm_top.specs.Refusals.{topology_of};
+ghost use Rattle.balm_top.specs.Refusals.{topology_of, AcceptsNames};
 ghost use Rattle.balm_top.specs.Stops.{StopsRightly, SolvesRightly, StopsWork, IsWorkable, IsSolved};
 ghost use Rattle.balm_top.specs.Work.{IsFreeName, IsTopologyOf};
 
@@ -64,22 +65,56 @@ fn solve<'a>(alloc: Global, request: &Request<'a>, f: Net, s: Net) -> Result<Sol
         (net_of f) (net_of s) solution) }
     ensures stopped { IfErr result (StopsWork (job_of request.now) (net_of f) (net_of s)) }
 {
+    let problem = match named_problem(alloc, request, f, s) {
+        Ok(problem) => problem,
+        Err(stop) => return Err(stop),
+    };
+    let File::Net(f) = problem.f();
+    let File::Net(s) = problem.s();
+    if !is_small(problem.joint(), f, s) {
+        return Err(too_big(request));
+    }
+    solution_or_stop(solve_nets(alloc, f, s, problem.joint(), problem.x()))
+}
+
+/// The problem of a job whose files are these networks.
+fn named_problem<'a>(
+    alloc: Global,
+    request: &Request<'a>,
+    f: Net,
+    s: Net,
+) -> Result<Problem, Stop<'a>>
+    requires f_sound { IsSound (net_of f) }
+    requires s_sound { IsSound (net_of s) }
+    ensures ok { IfOk result (λ problem. problem ≡ problem_of Mode.Sync (NetFile (net_of f)) (NetFile (net_of s)) (job_of request.now).ins (job_of request.now).outs) }
+    ensures names { IfOk result (λ problem. AcceptsNames (job_of request.now) (net_of f) (net_of s)) }
+    ensures stopped { IfErr result (StopsWork (job_of request.now) (net_of f) (net_of s)) }
+{
     let Ok(ins) = list_of(alloc, &request.ins) else {
         return Err(Stop::Memory);
     };
     let Ok(outs) = list_of(alloc, &request.outs) else {
         return Err(Stop::Memory);
     };
-    let problem = match Problem::build(alloc, Mode::Sync, File::Net(f), File::Net(s), &ins, &outs) {
-        Ok(problem) => problem,
-        Err(refusal) => return Err(Stop::BadNames(refusal)),
-    };
-    let File::Net(f) = problem.f();
-    let File::Net(s) = problem.s();
-    if !is_small(problem.joint(), f, s) {
-        return Err(Stop::TooBig(request.s));
+    match Problem::build(alloc, Mode::Sync, File::Net(f), File::Net(s), &ins, &outs) {
+        Ok(problem) => Ok(problem),
+        Err(refusal) => Err(Stop::BadNames(refusal)),
     }
-    match solve_nets(alloc, f, s, problem.joint(), problem.x()) {
+}
+
+/// The stop where a problem is too big, which is told of S's file.
+fn too_big<'a>(request: &Request<'a>) -> Stop<'a>
+    ensures { result ≡ Stop.TooBig request.now.s }
+{
+    Stop::TooBig(request.s)
+}
+
+/// The solution, or the stop for want of memory.
+fn solution_or_stop<'a>(found: Result<Solution, AllocError>) -> Result<Solution, Stop<'a>>
+    ensures ok { IfOk result (λ solution. found ≡ Ok solution) }
+    ensures err { OnErr result (result ≡ Err Stop.Memory) }
+{
+    match found {
         Ok(solution) => Ok(solution),
         Err(_) => Err(Stop::Memory),
     }

@@ -9,7 +9,7 @@ ghost use Rattle.blifmv_lines.specs.Places.{list_place};
 use crate::signs::{begins_with, is_closing, is_comma, is_denial, is_list_sign, is_opening};
 
 /// An entry as it is spelled.
-#[derive(Clone, Copy, Debug, PartialEq, Eq)]
+#[derive(Clone, Copy)]
 pub enum Spelled<'w, 'a> {
     /// `-`
     Dash,
@@ -26,7 +26,7 @@ pub enum Spelled<'w, 'a> {
 }
 
 /// The first entry of some words, and the words behind it.
-#[derive(Clone, Copy, Debug, PartialEq, Eq)]
+#[derive(Clone, Copy)]
 pub struct Taken<'w, 'a> {
     pub entry: Spelled<'w, 'a>,
     pub rest: &'w [&'a [u8]],

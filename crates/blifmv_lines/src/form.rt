@@ -12,7 +12,7 @@ use crate::signs::has_mark;
 use net_model::Directive;
 
 /// What a line says. The words are slices of the text, and the lists of them slices of the buffer.
-#[derive(Clone, Copy, Debug, PartialEq, Eq)]
+#[derive(Clone, Copy)]
 pub enum Form<'w, 'a> {
     /// The name of the model, where it has one.
     Model(&'w [&'a [u8]]),

@@ -1,3 +1,4 @@
+mod Agreeing
 pub mod Backward
 pub mod Faultless
 pub mod Gathered

@@ -68,6 +68,10 @@ abbrev pub agrees : List Name → Option (List Name) → Bool
 agrees domain None = true
 agrees domain (Some had) = are_same domain had
 
+-- the names of some of the signals have no other domain than this
+abbrev pub AreAgreeing : List Name → List Signal → List Signal → Type 0
+AreAgreeing domain signals some = (name : Name) → is_in (names_of some) name ≡ true → agrees domain (given_in signals name) ≡ true
+
 -- a signal without a domain has the values 0 and 1
 abbrev pub variable_of : Signal → Variable
 variable_of signal = record { name = signal.name; values = unwrap_or signal.given (numbers 2) }

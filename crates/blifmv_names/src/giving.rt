@@ -5,7 +5,7 @@ ghost use Rattle.std.specs.List.{list_any};
 ghost use Rattle.name_table.specs.Variables.{numbers};
 ghost use Rattle.net_model.specs.Forms.{number_of, has_count};
 ghost use Rattle.blifmv_lines.specs.Said.{texts, form_said, listed_names};
-ghost use Rattle.blifmv_names.specs.Signals.{given_in, agrees, given_to_all};
+ghost use Rattle.blifmv_names.specs.Signals.{given_in, agrees, given_to_all, AreAgreeing};
 ghost use Rattle.blifmv_names.specs.LineFaults.{HasCount, IsGiven, IsDomainOf, IsListOf};
 
 use crate::signal_table::SignalTable;
@@ -33,7 +33,8 @@ pub(crate) fn give(
     let Some(domain) = domain_of(alloc, count, values)? else {
         return Ok(false);
     };
-    if has_another(signals, names, &domain) {
+    let clashes = has_another(alloc, signals, names, &domain)?;
+    if clashes {
         return Ok(false);
     }
     give_all(signals, names, &domain)?;
@@ -89,17 +90,44 @@ fn copies(alloc: Global, words: &[&[u8]]) -> Result<Vec<Vec<u8>>, AllocError>
     Ok(names)
 }
 
-// Whether one of the names has another domain.
-fn has_another(signals: &SignalTable, names: &[&[u8]], domain: &Domain) -> bool
-    ensures { result ≡ list_any (λ name. not (agrees domain.now (given_in signals.now name))) (listed_names (texts names.now)) }
+// Whether one of the names has another domain. A name that the line has again isn't compared again.
+fn has_another(
+    alloc: Global,
+    signals: &SignalTable,
+    names: &[&[u8]],
+    domain: &Domain,
+) -> Result<bool, AllocError>
+    ensures { IfOk result (λ another. another ≡ list_any (λ name. not (agrees domain.now (given_in signals.now name))) (listed_names (texts names.now))) }
 {
+    let mut agreeing = SignalTable::new(alloc);
     let mut left = ListedNames::new(names);
     while let Some(name) = left.next_name() {
-        if is_another(signals, name, domain) {
-            return true;
+        if is_other(signals, name, domain, &mut agreeing)? {
+            return Ok(true);
         }
     }
-    false
+    Ok(false)
+}
+
+// Whether the name has another domain. Where it hasn't, it is put among those that agree.
+fn is_other(
+    signals: &SignalTable,
+    name: &[u8],
+    domain: &Domain,
+    agreeing: &mut SignalTable,
+) -> Result<bool, AllocError>
+    requires { AreAgreeing domain.now signals.now agreeing.old }
+    ensures other { IfOk result (λ other. other ≡ not (agrees domain.now (given_in signals.now name.now))) }
+    ensures agreeing { OnOk result (AreAgreeing domain.now signals.now agreeing.new) }
+{
+    if agreeing.has(name) {
+        return Ok(false);
+    }
+    if is_another(signals, name, domain) {
+        return Ok(true);
+    }
+    agreeing.mention(name)?;
+    Ok(false)
 }
 
 fn is_another(signals: &SignalTable, name: &[u8], domain: &Domain) -> bool

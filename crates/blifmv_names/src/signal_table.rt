@@ -123,7 +123,8 @@ impl SignalTable {
         (name.as_slice(), given)
     }
 
-    fn has(&self, name: &[u8]) -> bool
+    // Whether there is a signal of this name.
+    pub(crate) fn has(&self, name: &[u8]) -> bool
         ensures { result ≡ is_in (names_of self.now) name.now }
     {
         self.table.contains_key(name)

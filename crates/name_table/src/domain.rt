@@ -15,8 +15,8 @@ use std::rc::Rc;
 /// The most names of a domain: the joint actions of two files always fit.
 const MOST_VALUES: usize = 131_072;
 
-/// A domain. It is a count alone where its names are numbers that were asked for by their count, and else keeps its
-/// names, in one list for all its copies; so a copy costs nothing.
+/// A domain. It is a count alone where its names are the numbers from 0 up, and else keeps its names, in one list for all
+/// its copies; so a copy costs nothing.
 #[derive(Drop)]
 pub struct Domain {
     values: Values,
@@ -75,10 +75,15 @@ impl Domain {
         Ok(domain)
     }
 
+    // Names that are the numbers from 0 up are kept as their count, which is compared as a number.
     fn named(alloc: Global, names: NameSet) -> Result<Domain, AllocError>
         requires { IsDomain names }
         ensures { IfOk result (λ domain. domain ≡ names) }
     {
+        let count = names.len() as u32;
+        if are_numbers(&names, count) {
+            return Ok(Domain::counted(count));
+        }
         let shared = Rc::new(alloc, names)?;
         Ok(Domain {
             values: Values::Named(shared),
