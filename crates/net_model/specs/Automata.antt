@@ -1,13 +1,13 @@
 use Rattle.std.specs.Prelude.{◌≡◌, ℕ, List, [], ◌∷◌, Any, Contains}
-use Rattle.net_model.specs.Words.{Letter, Word, Language}
+use Rattle.net_model.specs.Words.{Letter, Language}
 
--- a run on the word leads from this state to one that accepts
-abbrev pub RunsFrom : {Q : Type 0} → (Q → Letter → Q → Type 0) → (Q → Type 0) → Q → Word → Type 0
+-- a run on the word leads from this state to one that accepts; letters may be of any type
+abbrev pub RunsFrom : {Q A : Type 0} → (Q → A → Q → Type 0) → (Q → Type 0) → Q → List A → Type 0
 RunsFrom Steps Accepts q [] = Accepts q
 RunsFrom {Q} Steps Accepts q (a ∷ word) = (r : Q) × Steps q a r × RunsFrom Steps Accepts r word
 
 -- the words with a run from an initial state to one that accepts
-abbrev pub LanguageOf : {Q : Type 0} → (Q → Type 0) → (Q → Letter → Q → Type 0) → (Q → Type 0) → Language
+abbrev pub LanguageOf : {Q A : Type 0} → (Q → Type 0) → (Q → A → Q → Type 0) → (Q → Type 0) → List A → Type 0
 LanguageOf {Q} Initial Steps Accepts word = (q : Q) × Initial q × RunsFrom Steps Accepts q word
 
 -- a move of an automaton of definitions
