@@ -4,5 +4,6 @@ pub mod Letters
 pub mod Places
 pub mod Chains
 pub mod Missing
+pub mod ShortValues
 pub mod Apart
 pub mod Alike

@@ -1,12 +1,12 @@
 -- Codes of variables that stand apart. A spot is the layout of one variable; a list of spots says where the code of each
 -- variable of a list stands.
-use Rattle.std.specs.Prelude.{◌≡◌, ℕ, Bool, true, false, List, [], ◌∷◌, map, slice_index_or, All}
+use Rattle.std.specs.Prelude.{◌≡◌, ◌<◌, ◌⊎◌, ℕ, Bool, true, false, List, [], ◌∷◌, length, drop, map, slice_index_or, All}
 use Rattle.std.specs.List.{list_all, flat_map}
 use Rattle.name_table.specs.ScopeVars.{variable_at}
 use Rattle.net_model.specs.Words.{Variable, Scope, IsLetter}
 use Rattle.node_table.specs.Table.{Bits, Table, value_at, IsValid}
 use Rattle.bdd_ops.specs.Levels.{is_in}
-use Rattle.bdd_ops.specs.Meaning.{DependsOn}
+use Rattle.bdd_ops.specs.Meaning.{DependsOn, IsMissing}
 use Rattle.mv_encoding.specs.Layouts.{Layout, number_of, numbers_of, levels_of, is_letter, IsLaid}
 
 -- the spot of a variable, from this level on
@@ -46,6 +46,12 @@ spelled spots bits = map (λ spot. number_of spot 0 bits) spots
 -- whether the number at each spot is a value
 abbrev pub spell_values : List Layout → Bits → Bool
 spell_values spots bits = list_all (λ spot. is_letter spot.scope (numbers_of spot bits)) spots
+
+-- an answer on the way to the values of all spots is missing: the values of one spot, or those of all spots from it on
+pub record AreValuesShort (t : Table) (spots : List Layout) : Type 0 where
+  pub place : ℕ
+  pub within : place < length spots
+  pub missing : IsMissing t (λ bits. is_letter (spot_at spots place).scope (numbers_of (spot_at spots place) bits)) ⊎ IsMissing t (spell_values (drop place spots))
 
 -- two codes share no level
 abbrev pub AreApart : Layout → Layout → Type 0

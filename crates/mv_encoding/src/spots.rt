@@ -5,7 +5,7 @@ ghost use Rattle.node_table.specs.Table.{Grows};
 ghost use Rattle.bdd_ops.specs.Meaning.{StandsFor};
 ghost use Rattle.name_table.specs.CodeBits.{bits_in};
 ghost use Rattle.mv_encoding.specs.Layouts.{number_at, number_of, IsLaid};
-ghost use Rattle.mv_encoding.specs.Spots.{IsSpot, AreSpots, AreLaid, spell_values};
+ghost use Rattle.mv_encoding.specs.Spots.{IsSpot, AreSpots, AreLaid, AreValuesShort, spell_values};
 
 use crate::coding::Coding;
 use bdd_ops::{and, ite, not};
@@ -19,6 +19,7 @@ pub fn all_values(space: &mut Space, spots: &[Coding]) -> Result<Ref, MkFault>
     ensures grows { Grows space.old space.new }
     ensures levels { space.new.levels ≡ space.old.levels }
     ensures full { result ≡ Err MkFault.Full → length space.new.nodes ≡ space.new.limit }
+    ensures needed { result ≡ Err MkFault.Full → AreValuesShort space.new spots.now }
 {
     let mut values = space.one();
     for place in (0..spots.len()).rev() {

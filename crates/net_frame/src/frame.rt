@@ -5,7 +5,7 @@ ghost use Rattle.std.specs.Option.{option_map};
 ghost use Rattle.bdd_ops.specs.Levels.{IsSetOf};
 ghost use Rattle.bdd_ops.specs.Meaning.{StandsFor};
 ghost use Rattle.mv_encoding.specs.Layouts.{IsRefused};
-ghost use Rattle.mv_encoding.specs.Spots.{AreLaid, all_levels, spell_values};
+ghost use Rattle.mv_encoding.specs.Spots.{AreValuesShort, AreLaid, all_levels, spell_values};
 ghost use Rattle.name_table.specs.CodeBits.{bits_in};
 ghost use Rattle.net_model.specs.Problems.{file_of, IsBuilt, IsSoundFile};
 ghost use Rattle.net_problem.specs.ProblemBits.{file_bits, joint_bits, problem_bits};
@@ -209,6 +209,7 @@ impl Frame {
         ensures grows { Grows space.old space.new }
         ensures levels { space.new.levels ≡ space.old.levels }
         ensures full { result ≡ Err MkFault.Full → length space.new.nodes ≡ space.new.limit }
+        ensures needed { result ≡ Err MkFault.Full → AreValuesShort space.new (spots_in self.now slot).letters }
     {
         all_values(space, self.letter_codings(slot))
     }

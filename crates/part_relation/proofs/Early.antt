@@ -10,9 +10,10 @@ use Rattle.std.proofs.lemmas.List.Sums.{AllPass-from_list_all, list_all-from_All
 use Rattle.node_table.specs.Table.{Bits, Table, value_at, Grows}
 use Rattle.node_table.proofs.Growth.{grows-trans}
 use Rattle.bdd_ops.specs.Levels.{is_in, SameOutside}
-use Rattle.bdd_ops.specs.Meaning.{HasSome, StandsForHidden}
+use Rattle.bdd_ops.specs.Meaning.{HasSome, StandsForHidden, IsShort}
 use Rattle.bdd_ops.proofs.Members.{same-tests}
-use Rattle.part_relation.specs.Plans.{Plan, AreValid, IsFree, Fits, all_hold, named_by, part_at}
+use Rattle.bdd_ops.proofs.Short.{short-same}
+use Rattle.part_relation.specs.Plans.{Plan, AreValid, IsFree, Fits, all_hold, named_by, part_at, hidden_before, meaning_before, IsShortAt}
 use Rattle.part_relation.proofs.Free.{free-all}
 use Rattle.part_relation.proofs.Orders.{order-covers}
 
@@ -57,13 +58,6 @@ module _ (hidden more : List ℕ) where
         inside true k at out = refl
         inside false k at out = some.1 k (joined k at out)
 
--- the levels that are hidden before the part in this place is taken, and what was conjoined so far
-abbrev pub hidden_before : Plan → ℕ → List ℕ
-hidden_before plan place = plan.first ++ flat_map (λ levels. levels) (take place plan.hides)
-
-abbrev pub meaning_before : Table → List ℕ → Plan → ℕ → ℕ → Bits → Bool
-meaning_before t parts plan from place bits = value_at t from bits && list_all (λ k. value_at t (slice_index parts k) bits) (take place plan.order)
-
 -- the ref stands for what is left before the part in this place is taken
 pub record IsTaken (t s : Table) (parts : List ℕ) (plan : Plan) (from place r : ℕ) : Type 0 where
   pub stands : StandsForHidden s r (hidden_before plan place) (meaning_before t parts plan from place)
@@ -107,6 +101,20 @@ module _ (t : Table) (parts : List ℕ) (plan : Plan) (from : ℕ) (fits : Fits 
         and_assoc (value_at t from bits) (list_all (λ k. value_at t (slice_index parts k) bits) (take place plan.order)) (value_at t (part_at parts plan place) bits)
         ∙ ap (λ b. value_at t from bits && b) (sym (list_all_more (λ k. value_at t (slice_index parts k) bits) plan.order place 0 within))
 
+    -- a part has its value still, once the Space has grown
+    part-same : (s : Table) (left : ℕ) → AreValid t parts → IsTaken t s parts plan from place left → (bits : Bits) → value_at s (part_at parts plan place) bits ≡ value_at t (part_at parts plan place) bits
+    part-same s left valid taken bits = taken.grows.value (part_at parts plan place) (valid (slice_index plan.order place) 0 (fits.order.below place 0 within)).held bits
+
+    pub taken-short : (s new : Table) (left : ℕ) → AreValid t parts → IsTaken t s parts plan from place left → IsShort new (slice_index_or plan.hides place []) (λ bits. value_at s left bits && value_at s (part_at parts plan place) bits) → IsShortAt t new parts plan from place
+    taken-short s new left valid taken short = record {
+      within = within;
+      left = value_at s left;
+      found = taken.stands.found;
+      holds = taken.stands.holds;
+      short = short-same new (slice_index_or plan.hides place []) (λ bits. value_at s left bits && value_at s (part_at parts plan place) bits) (λ bits. value_at s left bits && value_at t (part_at parts plan place) bits)
+          (λ bits. ap (λ b. value_at s left bits && b) (part-same s left valid taken bits)) short;
+    }
+
     pub taken-next : (s new : Table) (left r : ℕ) → AreValid t parts → IsTaken t s parts plan from place left → StandsForHidden new r (slice_index_or plan.hides place []) (λ bits. value_at s left bits && value_at s (part_at parts plan place) bits) → Grows s new → new.levels ≡ s.levels → IsTaken t new parts plan from (place + 1) r
     taken-next s new left r valid taken stands grows levels = record {
       stands =
@@ -124,7 +132,7 @@ module _ (t : Table) (parts : List ℕ) (plan : Plan) (from : ℕ) (fits : Fits 
     }
       where
         same : (bits : Bits) → value_at s (part_at parts plan place) bits ≡ value_at t (part_at parts plan place) bits
-        same bits = taken.grows.value (part_at parts plan place) (valid (slice_index plan.order place) 0 (fits.order.below place 0 within)).held bits
+        same bits = part-same s left valid taken bits
 
         free : (u v : Bits) → SameOutside (hidden_before plan place) u v → value_at s (part_at parts plan place) u ≡ value_at s (part_at parts plan place) v
         free u v outside = same u ∙ free-all t (part_at parts plan place) (hidden_before plan place) all-free u v outside ∙ sym (same v)

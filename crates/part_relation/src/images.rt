@@ -3,7 +3,7 @@
 ghost use Rattle.std.specs.Prelude.{◌≡◌, ◌<◌, ◌&&◌, [], length, slice_index, slice_index_or, Err, IfOk};
 ghost use Rattle.node_table.specs.Table.{value_at, IsValid, Grows};
 ghost use Rattle.bdd_ops.specs.Meaning.{StandsFor, StandsForHidden, IsMissing, IsShort};
-ghost use Rattle.part_relation.specs.Plans.{all_hold, AreValid, Fits, named_by, part_at};
+ghost use Rattle.part_relation.specs.Plans.{all_hold, AreValid, Fits, named_by, part_at, IsImageShort};
 
 use crate::parts::Parts;
 use crate::schedules::Schedule;
@@ -20,6 +20,7 @@ pub fn image(space: &mut Space, parts: &Parts, plan: &Schedule, from: Ref) -> Re
     ensures grows { Grows space.old space.new }
     ensures levels { space.new.levels ≡ space.old.levels }
     ensures full { result ≡ Err MkFault.Full → length space.new.nodes ≡ space.new.limit }
+    ensures needed { result ≡ Err MkFault.Full → IsImageShort space.old space.new parts.now plan.now from }
 {
     let mut left = exists(space, from, plan.first())?;
     for place in 0..plan.len() {
@@ -44,6 +45,7 @@ fn take(
     ensures grows { Grows space.old space.new }
     ensures levels { space.new.levels ≡ space.old.levels }
     ensures full { result ≡ Err MkFault.Full → length space.new.nodes ≡ space.new.limit }
+    ensures needed { result ≡ Err MkFault.Full → IsShort space.new (slice_index_or plan.now.hides place []) (λ bits. value_at space.old left bits && value_at space.old (part_at parts.now plan.now place) bits) }
 {
     match parts.at(plan.part(place)) {
         Some(part) => and_exists(space, left, part, plan.hides(place)),
