@@ -1,6 +1,6 @@
-use Rattle.std.proofs.Common.{◌≡◌, ◌↔◌, Bool, true, false, ℕ, List, Option, Some, inl, inr, MatchBool, refl, sym, ◌∙◌, subst}
-use Rattle.io_core.specs.Causes.{Rose}
+use Rattle.std.proofs.Common.{◌≡◌, ◌↔◌, Bool, true, false, ℕ, List, Option, inl, inr, if◌then◌else◌, MatchBool, refl, sym, subst}
 use Rattle.io_core.specs.Files.{Files}
+use Rattle.io_core.specs.Gained.{gained}
 use Rattle.net_model.specs.Words.{Word, Scope}
 use Rattle.net_model.specs.Equation.{Topology, IsSafe}
 use Rattle.net_model.specs.Listings.{ListingWords, listing_of}
@@ -9,7 +9,7 @@ use Rattle.net_model.specs.NetLanguages.{letters_of, NetWords, Means, StandsForA
 use Rattle.net_model.proofs.Largest.{safe_words_are_largest}
 use Rattle.listed_solve.specs.declared.solve.Solution.{Solution}
 use Rattle.balm_top.specs.Refusals.{topology_of}
-use Rattle.balm_top.specs.Answers.{IsAnswer, IsVerdict, SolveIsExact, ReachesOutput, UsageRightly, WriteFaultRightly, MemoryRightly, GainsFrontOfAnswer}
+use Rattle.balm_top.specs.Answers.{IsAnswer, IsVerdict, SolveIsExact, UsageRightly, WriteFaultRightly, MemoryRightly, GainsFrontOfAnswer}
 use Rattle.fault_lines.specs.Statuses.{IsFinished}
 use Rattle.balm_top.specs.Stops.{Solves, SolvesRightly, IsSolved, MeansSolution, AnswersRightly, text_of}
 use Rattle.fault_lines.specs.declared.status.Status.{Status}
@@ -71,6 +71,14 @@ done_is_no_memory is = cc
 
 negative_is_no_memory : Negative ≡ Memory → ⊥
 negative_is_no_memory is = cc
+
+-- the status where all was printed
+pub answers_verdict : (old new : Option (List ℕ)) (faults faults' wants wants' : ℕ) (Told : List ℕ → Type 0) (Quiet : Type 0) (solution : Solution) → new ≡ gained old (text_of solution) → Quiet → AnswersRightly solution old new faults faults' wants wants' Told Quiet (if solution.has_word then Done else Negative)
+answers_verdict old new faults faults' wants wants' Told Quiet solution is quiet = by solution.has_word refl
+  where
+    by : (has : Bool) → solution.has_word ≡ has → AnswersRightly solution old new faults faults' wants wants' Told Quiet (if has then Done else Negative)
+    by true e = (is, e, quiet)
+    by false e = (is, e, quiet)
 
 -- What the printing of a solution leaves.
 module _ (words : List (List ℕ)) (holds : Option Files) (old new : Option (List ℕ)) (faults faults' wants wants' : ℕ) (Told : List ℕ → Type 0) (Quiet : Type 0) (solution : Solution) (solves : SolvesRightly words holds solution) (means : MeansSolution solution) where

@@ -1,8 +1,8 @@
-use Rattle.std.proofs.Common.{◌≡◌, ◌≢◌, ◌<◌, ◌⊎◌, ◌||◌, ◌&&◌, ℕ, zero, suc, Bool, true, false, not, List, [], ◌∷◌, ◌++◌, length, map, filter, Option, Some, None, cond, refl, sym, ap, subst, ◌∙◌, arith, append_assoc, codes, inl, inr}
-use Rattle.std.specs.Prelude.{slice_get, unwrap_or, nat_eq, All}
+use Rattle.std.proofs.Common.{◌≡◌, ◌<◌, ◌⊎◌, ℕ, zero, suc, Bool, true, false, not, List, [], ◌∷◌, ◌++◌, length, map, filter, Option, Some, None, cond, refl, sym, ap, subst, ◌∙◌, arith, codes, inl, inr}
+use Rattle.std.specs.Prelude.{nat_eq, All}
 use Rattle.std.specs.List.{AllByRecursion, list_any}
 use Rattle.std.specs.Str.{bytes_eq}
-use Rattle.std.proofs.lemmas.Bool.{false≢true, and_parts, or_cases}
+use Rattle.std.proofs.lemmas.Bool.{false≢true, or_cases}
 use Rattle.std.proofs.lemmas.Slice.Eq.{bytes_eq-Decides}
 use Rattle.name_table.specs.Variables.{names_of, is_in, are_different}
 use Rattle.name_table.specs.ScopeVars.{variable_at, chosen_of}
@@ -12,7 +12,7 @@ use Rattle.net_model.specs.NetLanguages.{is_automaton, other_outputs, letter_sig
 use Rattle.net_model.specs.SoundNets.{IsSound}
 use Rattle.net_model.specs.Written.{IsTextVariable}
 use Rattle.net_model.specs.Topologies.{is_named, variable_named, joint_scope}
-use Rattle.net_model.specs.Problems.{NetFile, NameRefusal, UnknownName, RepeatedName, InBoth, ReservedName, or_else, refused_if, name_refusal, list_refusal, first_refusal, file_refusal, names_known, is_reserved}
+use Rattle.net_model.specs.Problems.{NetFile, NameRefusal, UnknownName, RepeatedName, InBoth, ReservedName, or_else, refused_if, name_refusal, list_refusal, first_refusal, file_refusal, is_reserved}
 use Rattle.net_model.specs.declared.class.Mode.TheVariants.{Sync}
 use Rattle.net_problem.specs.Building.{names_refusal}
 use Rattle.net_problem.proofs.ScopesGood.{names_good}

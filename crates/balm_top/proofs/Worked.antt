@@ -1,9 +1,9 @@
-use Rattle.std.proofs.Common.{◌≡◌, ◌≢◌, ◌↔◌, ◌<◌, ◌≤◌, ◌*◌, ◌^◌, ◌++◌, ℕ, zero, suc, List, [], ◌∷◌, length, map, IsTrue, MatchBool, refl, sym, ap, subst, ◌∙◌, arith}
+use Rattle.std.proofs.Common.{◌≡◌, ◌↔◌, ◌<◌, ◌≤◌, ◌*◌, ◌++◌, ℕ, zero, suc, [], ◌∷◌, map, MatchBool, refl, sym, ap, subst, ◌∙◌, arith}
 use Rattle.std.specs.Prelude.{Result, Ok, Err, IfOk, IfErr, OnErr}
 use Rattle.std.specs.declared.alloc.AllocError.{AllocError}
 use Rattle.std.specs.List.{AllByRecursion}
 use Rattle.name_table.specs.Variables.{names_of}
-use Rattle.net_model.specs.Words.{Variable, Scope, Word, Language}
+use Rattle.net_model.specs.Words.{Scope, Word, Language}
 use Rattle.net_model.specs.Equation.{Topology, IsSafe, part}
 use Rattle.net_model.specs.Listings.{Listing, ListingWords, listing_of}
 use Rattle.net_model.specs.Nets.{Net}

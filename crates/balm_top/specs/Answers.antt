@@ -1,4 +1,4 @@
-use Rattle.std.specs.Prelude.{◌≡◌, ◌≢◌, ◌≤◌, ◌↔◌, ◌⊎◌, ℕ, List, [], ◌∷◌, ◌++◌, length, take, Option, Some}
+use Rattle.std.specs.Prelude.{◌≡◌, ◌↔◌, ◌⊎◌, ℕ, List, Option, Some}
 use Rattle.io_core.specs.Files.{Files}
 use Rattle.io_core.specs.Causes.{Rose}
 use Rattle.io_core.specs.Gained.{gained, GainsFrontOf}

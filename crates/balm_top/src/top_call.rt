@@ -1,17 +1,20 @@
 //! The top call.
 
-ghost use Rattle.std.specs.Prelude.{◌≡◌};
+ghost use Rattle.std.specs.Prelude.{◌≡◌, ◌⊎◌, if◌then◌else◌, Err, OnOk, OnErr};
+ghost use Rattle.io_core.specs.Causes.{Rose};
+ghost use Rattle.io_core.specs.Gained.{gained, GainsFrontOf};
 ghost use Rattle.net_model.specs.Listings.{listing_of};
 ghost use Rattle.net_model.specs.Printed.{IsPrintable};
 ghost use Rattle.job_words.specs.Jobs.{HasNoJob};
 ghost use Rattle.fault_lines.specs.Statuses.{IsFinished};
+ghost use Rattle.fault_lines.specs.Stops.{stop_status, stop_line};
 ghost use Rattle.fault_lines.specs.Told.{IsTold};
 ghost use Rattle.balm_top.specs.Answers.{SolveIsExact, ReachesOutput, UsageRightly, RefusedRightly, ReadFaultRightly, WriteFaultRightly, MemoryRightly, KeepsOut, GainsFrontOfAnswer};
-ghost use Rattle.balm_top.specs.Stops.{AnswersRightly, MeansSolution};
+ghost use Rattle.balm_top.specs.Stops.{AnswersRightly, MeansSolution, text_of};
 
 use crate::problem::solution_of;
 use aut_format::write_listed;
-use fault_lines::{Status, tell};
+use fault_lines::{Status, Stop, tell};
 use io_core::{Shelf, Sink, WriteFault};
 use job_words::Args;
 use listed_solve::Solution;
@@ -57,11 +60,18 @@ pub fn run<H: Shelf, O: Sink, E: Sink>(
 {
     match solution_of(alloc, words, shelf) {
         Ok(solution) => answer(alloc, &solution, out, err),
-        Err(stop) => {
-            stop.tell(err);
-            stop.status()
-        }
+        Err(stop) => refuse(&stop, err),
     }
+}
+
+/// Tells why there is no solution.
+fn refuse<'a, E: Sink>(stop: &Stop<'a>, err: &mut E) -> Status
+    ensures status { result ≡ stop_status stop.now }
+    ensures told { IsTold (E.contents err.old) (E.contents err.new) (E.faults err.old) (E.faults err.new) (E.wants err.old) (E.wants err.new)
+        (stop_line stop.now) }
+{
+    stop.tell(err);
+    stop.status()
 }
 
 /// Prints the solution.
@@ -72,14 +82,8 @@ fn answer<O: Sink, E: Sink>(alloc: Global, solution: &Solution, out: &mut O, err
         (IsTold (E.contents err.old) (E.contents err.new) (E.faults err.old) (E.faults err.new) (E.wants err.old) (E.wants err.new))
         (E.contents err.new ≡ E.contents err.old) result }
 {
-    match write_listed(alloc, &solution.auto, out) {
-        Ok(()) => {
-            if solution.has_word {
-                Status::Done
-            } else {
-                Status::Negative
-            }
-        }
+    match print_text(alloc, solution, out) {
+        Ok(()) => verdict(solution.has_word),
         Err(WriteFault::Failed) => {
             tell(err, &[b"balm: cannot write\n"]);
             Status::WriteFault
@@ -88,5 +92,29 @@ fn answer<O: Sink, E: Sink>(alloc: Global, solution: &Solution, out: &mut O, err
             tell(err, &[b"balm: out of memory\n"]);
             Status::Memory
         }
+    }
+}
+
+/// Prints the text of the solution.
+fn print_text<O: Sink>(alloc: Global, solution: &Solution, out: &mut O) -> Result<(), WriteFault>
+    requires { IsPrintable (listing_of solution.now.auto) }
+    ensures meaning { MeansSolution solution.now }
+    ensures ok { OnOk result (O.contents out.new ≡ gained (O.contents out.old) (text_of solution.now)) }
+    ensures refused { OnErr result (GainsFrontOf (O.contents out.old) (O.contents out.new) (text_of solution.now)) }
+    ensures failed { result ≡ Err WriteFault.Failed → Rose (O.faults out.old) (O.faults out.new) }
+    ensures memory { result ≡ Err WriteFault.Memory
+        → (O.contents out.new ≡ O.contents out.old) ⊎ Rose (O.wants out.old) (O.wants out.new) }
+{
+    write_listed(alloc, &solution.auto, out)
+}
+
+/// The status of a job that was done.
+fn verdict(has_word: bool) -> Status
+    ensures { result ≡ (if has_word then Status.Done else Status.Negative) }
+{
+    if has_word {
+        Status::Done
+    } else {
+        Status::Negative
     }
 }

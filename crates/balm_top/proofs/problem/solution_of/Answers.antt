@@ -1,4 +1,4 @@
-use Rattle.std.proofs.Common.{◌≡◌, ◌<◌, ◌≤◌, ◌++◌, ℕ, List, Some, length, inl, inr, refl, sym, ◌∙◌, subst, arith, rules, length-append}
+use Rattle.std.proofs.Common.{◌≡◌, ◌≤◌, ℕ, List, Some, inl, inr, refl, ◌∙◌, subst, arith, rules}
 use Rattle.io_core.specs.Files.{Files}
 use Rattle.net_model.specs.Nets.{net_of}
 use Rattle.job_words.specs.Jobs.{IsJob, job_of}

@@ -1,12 +1,10 @@
-use Rattle.std.proofs.Common.{IsTrue, sym, ap, subst, IfOk}
+use Rattle.std.proofs.Common.{IsTrue, sym, subst}
 use Rattle.std.specs.List.{AllByRecursion}
 use Rattle.name_table.specs.Variables.{names_of, are_different}
 use Rattle.net_model.specs.Words.{Scope}
 use Rattle.net_model.specs.Listings.{listing_of, scope_of}
 use Rattle.net_model.specs.Nets.{net_of}
-use Rattle.net_model.specs.Printed.{IsPrintedVariable}
 use Rattle.net_model.specs.Written.{IsTextVariable}
-use Rattle.automata_laws.specs.Letters.{HasFewValues}
 use Rattle.balm_top.specs.Work.{IsFreeName}
 use Rattle.balm_top.proofs.Worked.{printed_variables, exact_of_result}
 use Rattle.balm_top.proofs.problem.solve_nets.Goals as goal

@@ -53,26 +53,26 @@ returns-in-Ok-clause-out_front g c =
 pub returns-in-Err-clause-usage : goal.returns-in-Err-clause-usage
 returns-in-Err-clause-usage g c = λ is.
     let shelf = g.H.Shelf in
-    usage_is_no_job c.args.words.now (shelf.holds c.args.shelf.now) (shelf.faults c.args.shelf.now) (shelf.faults c.solution_of.new.shelf) c.in-Err.stop c.in-Err.ensures.stopped (sym c.status.ensures ∙ is)
+    usage_is_no_job c.args.words.now (shelf.holds c.args.shelf.now) (shelf.faults c.args.shelf.now) (shelf.faults c.solution_of.new.shelf) c.in-Err.stop c.in-Err.ensures.stopped (sym c.refuse.ensures.status ∙ is)
 
 pub returns-in-Err-clause-no_job : goal.returns-in-Err-clause-no_job
 returns-in-Err-clause-no_job g c =
     let shelf = g.H.Shelf in
-    subst (λ status. UsageRightly c.args.words.now status) (sym c.status.ensures)
+    subst (λ status. UsageRightly c.args.words.now status) (sym c.refuse.ensures.status)
     (no_job_is_usage c.args.words.now (shelf.holds c.args.shelf.now) (shelf.faults c.args.shelf.now) (shelf.faults c.solution_of.new.shelf) c.in-Err.stop c.in-Err.ensures.stopped)
 
 pub returns-in-Err-clause-refused : goal.returns-in-Err-clause-refused
 returns-in-Err-clause-refused g c =
     let shelf = g.H.Shelf in
     let err = g.E.Sink in
-    let Told : List ℕ → Type 0 = IsTold (err.contents c.args.err.now) (err.contents c.tell.new.err) (err.faults c.args.err.now) (err.faults c.tell.new.err) (err.wants c.args.err.now) (err.wants c.tell.new.err) in
-    subst (λ status. RefusedRightly c.args.words.now (shelf.holds c.args.shelf.now) Told status) (sym c.status.ensures) (refused_rightly c.args.words.now (shelf.holds c.args.shelf.now) (shelf.faults c.args.shelf.now) (shelf.faults c.solution_of.new.shelf) Told c.in-Err.stop c.in-Err.ensures.stopped c.tell.ensures)
+    let Told : List ℕ → Type 0 = IsTold (err.contents c.args.err.now) (err.contents c.refuse.new.err) (err.faults c.args.err.now) (err.faults c.refuse.new.err) (err.wants c.args.err.now) (err.wants c.refuse.new.err) in
+    subst (λ status. RefusedRightly c.args.words.now (shelf.holds c.args.shelf.now) Told status) (sym c.refuse.ensures.status) (refused_rightly c.args.words.now (shelf.holds c.args.shelf.now) (shelf.faults c.args.shelf.now) (shelf.faults c.solution_of.new.shelf) Told c.in-Err.stop c.in-Err.ensures.stopped c.refuse.ensures.told)
 
 pub returns-in-Err-clause-write_fault : goal.returns-in-Err-clause-write_fault
-returns-in-Err-clause-write_fault g c = λ is. absurd (no_write_fault c.in-Err.stop (sym c.status.ensures ∙ is))
+returns-in-Err-clause-write_fault g c = λ is. absurd (no_write_fault c.in-Err.stop (sym c.refuse.ensures.status ∙ is))
 
 pub returns-in-Err-clause-memory : goal.returns-in-Err-clause-memory
 returns-in-Err-clause-memory g c = λ is.
     let err = g.E.Sink in
-    let Told : List ℕ → Type 0 = IsTold (err.contents c.args.err.now) (err.contents c.tell.new.err) (err.faults c.args.err.now) (err.faults c.tell.new.err) (err.wants c.args.err.now) (err.wants c.tell.new.err) in
-    (memory_told Told c.in-Err.stop c.tell.ensures (sym c.status.ensures ∙ is), inl refl)
+    let Told : List ℕ → Type 0 = IsTold (err.contents c.args.err.now) (err.contents c.refuse.new.err) (err.faults c.args.err.now) (err.faults c.refuse.new.err) (err.wants c.args.err.now) (err.wants c.refuse.new.err) in
+    (memory_told Told c.in-Err.stop c.refuse.ensures.told (sym c.refuse.ensures.status ∙ is), inl refl)
