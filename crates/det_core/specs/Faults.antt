@@ -1,5 +1,5 @@
 -- Why work on diagrams ends early.
-use Rattle.std.specs.Prelude.{◌≡◌, ℕ, length, Result, Err}
+use Rattle.std.specs.Prelude.{◌≡◌, ℕ, length}
 use Rattle.node_table.specs.Table.{Table}
 use Rattle.node_table.specs.declared.space.MkFault.{MkFault}
 use Rattle.node_table.specs.declared.space.MkFault.TheVariants as mk

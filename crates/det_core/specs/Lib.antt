@@ -1,1 +1,5 @@
 pub mod Faults
+pub mod Automata
+pub mod Languages
+pub mod Codes
+pub mod Filling
