@@ -26,6 +26,7 @@ impl Det {
         requires word { IsWord coding.now.scope (word_of word.now.letters.items) }
         ensures { IsTrue result ↔ HasLetters space.now coding.now self.now (word_of word.now.letters.items) }
     {
+        // There is a state 0.
         let _count = self.states();
         let mut state = 0;
         for letter in &word.letters {
@@ -59,6 +60,7 @@ fn has_code(space: &Space, coding: &Coding, letters: Ref, code: &Code) -> bool
     requires reads { DependsOn space.now (levels_of coding.now) letters }
     ensures { (bits : Bits) → HasCode coding.now (bit_of code.now) bits → result ≡ value_at space.now letters bits }
 {
+    // A letter has no more bits than a code.
     let _bits = coding.bits();
     let Some(level) = space.level(letters) else {
         return letters == Ref::ONE;
