@@ -9,12 +9,13 @@ use Rattle.std.proofs.lemmas.List.Kept.{AllPairs-from_increasing}
 use Rattle.node_table.specs.declared.node.Node.{Node}
 use Rattle.node_table.specs.Table.{Bits, Table, number_of_next, node_of, value_of, top_of, level_or, FitsOn, AreNodes, IsValid}
 use Rattle.node_table.proofs.Nodes.{apart, older, value-cons, value-first, level-cons, level-first, held-node, node-held, AreNodes-rises}
-use Rattle.node_table.proofs.Canonical.{changed, value-below, canonical}
+use Rattle.node_table.proofs.Canonical.{changed}
 use Rattle.bdd_ops.proofs.Hiding.{changed-at}
 use Rattle.bdd_walk.specs.Paths.{Path, Follows, levels_on, behind, IsBefore}
 use Rattle.bdd_walk.specs.Cuts.{SameAbove, IsLeft, IsLess, IsCut}
 use Rattle.bdd_walk.specs.Walk.{ends_of, put_all}
 use Rattle.bdd_walk.proofs.Nodes.{HasEnds}
+use Rattle.bdd_walk.proofs.Lefts.{left-unique}
 use Rattle.bdd_walk.proofs.Lists.{Any-left, Any-right, Any-map}
 use Rattle.bdd_walk.proofs.Ways.{AreInOrder, in-order-node, same-node}
 use Rattle.bdd_walk.proofs.Puts.{IsEarlier, among-at, among-any, put_all-in, All-put_all, earlier-put_all}
@@ -399,25 +400,6 @@ module _ (t : Table) (level f : ℕ) (valid : IsValid t f) where
   earlier : AllPairs (IsEarlier whole) refs
   earlier = earlier-put_all whole [] whole [] refl (λ s is. is) (λ s is. is) (λ i j d less within. absurd (omega arith))
 
-  -- the first bits above the level, and the second from there on
-  abbrev merged : Bits → Bits → Bits
-  merged v x k = if nat_lt k level then v k else x k
-
-  merged-above : (v x : Bits) → SameAbove level v (merged v x)
-  merged-above v x k less = sym (ap (λ b. if b then v k else x k) (lt-ltb k level less))
-
-  merged-from : (v x : Bits) (k : ℕ) → level ≤ k → merged v x k ≡ x k
-  merged-from v x k low = ap (λ b. if b then v k else x k) (false_from_ne_true (nat_lt k level) (λ less. let under = ltb-true k level less in omega (arith, under, low)))
-
-  -- nothing else is left by the same bits
-  left-unique : (v : Bits) (r s : ℕ) → r < number_of_next t.nodes → s < number_of_next t.nodes → level ≤ level_or levels t.nodes r → level ≤ level_or levels t.nodes s → IsLeft t level f v r → IsLeft t level f v s → r ≡ s
-  left-unique v r s r_held s_held r_low s_low r_left s_left =
-      canonical levels t.nodes all r s r_held s_held (λ x.
-      value-below levels t.nodes all r r_held x (merged v x) (λ k low. sym (merged-from v x k (omega (arith, low, r_low))))
-      ∙ sym (r_left (merged v x) (merged-above v x))
-      ∙ s_left (merged v x) (merged-above v x)
-      ∙ value-below levels t.nodes all s s_held (merged v x) x (λ k low. merged-from v x k (omega (arith, low, s_low))))
-
   ordered : (r s : ℕ) → s < number_of_next t.nodes → level ≤ level_or levels t.nodes s → IsEarlier whole r s → (v : Bits) → IsLeft t level f v s → (u : Bits) × IsLeft t level f u r × IsLess level u v
   ordered r s s_held s_low early v left =
       let any = facts.covering v in
@@ -426,7 +408,7 @@ module _ (t : Table) (level f : ℕ) (valid : IsValid t f) where
       let within : m < length ways = any.2 in
       let F : Way → Type 0 = λ x. Follows x.0 v in
       let along : F (get_or ways m w) = subst F (sym any.3) any.4 in
-      let same : s ≡ (get_or ways m w).1 = left-unique v s (get_or ways m w).1 s_held (facts.held m w within) s_low (facts.low m w within) left (is-left m w within v along) in
+      let same : s ≡ (get_or ways m w).1 = left-unique level t levels f all v s (get_or ways m w).1 s_held (facts.held m w within) s_low (facts.low m w within) left (is-left m w within v along) in
       let less : early.at < m = early.before m (omega (arith, length-whole, within)) (end-at m w within ∙ sym same) in
       let first : early.at < length ways = omega (arith, less, within) in
       let P : Path → Type 0 = λ p. IsBefore p (get_or ways m w).0 in

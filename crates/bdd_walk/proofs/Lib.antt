@@ -4,4 +4,9 @@ pub mod Down
 pub mod Ways
 pub mod Trails
 pub mod Puts
+pub mod Lefts
 pub mod Fixings
+pub mod Guards
+pub mod Gathered
+pub mod Placed
+pub mod Joined

@@ -4,8 +4,8 @@ use Rattle.std.specs.Option.{option_map}
 use Rattle.node_table.specs.Table.{Table, lo_of, hi_of, IsValid}
 use Rattle.node_table.proofs.Nodes.{Holds, node-held}
 
-same-some : (m n : ℕ) → Some m ≡ Some n → m ≡ n
-same-some m n e = cc
+pub same-some : {X : Type 0} (a b : X) → Some a ≡ Some b → a ≡ b
+same-some a b e = cc
 
 -- the node of a ref, by the answers of `lo` and `hi`
 pub record HasEnds (t : Table) (r lo hi : ℕ) : Type 0 where
