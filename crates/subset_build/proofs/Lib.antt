@@ -1,0 +1,10 @@
+pub mod Lists
+pub mod Values
+pub mod Maps
+pub mod Pieces
+pub mod Steps
+pub mod Stepping
+pub mod Cutting
+pub mod Making
+pub mod Exploring
+pub mod Grounding

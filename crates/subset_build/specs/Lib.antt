@@ -1,0 +1,5 @@
+pub mod Relations
+pub mod Tables
+pub mod Subsets
+pub mod Preparing
+pub mod Placing
