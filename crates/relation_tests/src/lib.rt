@@ -1,0 +1,13 @@
+//! Tests of networks as relations.
+#![tactic(auto)]
+
+#[cfg(test)]
+mod frames;
+#[cfg(test)]
+mod problems;
+#[cfg(test)]
+mod shown;
+#[cfg(test)]
+mod sizes;
+#[cfg(test)]
+mod steps;
