@@ -1,2 +1,1 @@
 pub mod LayerNames
-pub mod Rows

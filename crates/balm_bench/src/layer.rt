@@ -38,10 +38,16 @@ pub enum Layer {
 
     /// The text of a network with many named values, and rows that name them.
     Valued,
+
+    /// The relation of a chain of many latches.
+    Chain,
+
+    /// The relation of one table of many rows.
+    Drawn,
 }
 
 impl Layer {
-    const ALL: [Layer; 10] = [
+    const ALL: [Layer; 12] = [
         Layer::Lines,
         Layer::Names,
         Layer::Nodes,
@@ -52,6 +58,8 @@ impl Layer {
         Layer::Collisions,
         Layer::Counts,
         Layer::Valued,
+        Layer::Chain,
+        Layer::Drawn,
     ];
 
     /// The word that names it.
@@ -69,6 +77,8 @@ impl Layer {
             Layer::Collisions => "collisions",
             Layer::Counts => "counts",
             Layer::Valued => "valued",
+            Layer::Chain => "chain",
+            Layer::Drawn => "drawn",
         }
     }
 

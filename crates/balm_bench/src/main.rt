@@ -2,22 +2,16 @@
 //! checks what it counted, and prints the counts.
 #![tactic(auto)]
 
-mod collisions;
-mod conjunctions;
-mod domains;
-mod fault;
 mod layer;
-mod lines;
-mod names;
-mod nodes;
-mod table_rows;
-mod texts;
-mod value_counts;
-mod valued;
 
 ghost use Rattle.std.specs.Prelude.{◌<◌, vec_len, IfOk};
 
 use anyhow::{Context, Result, bail};
+use bench_diagrams::{count_blocked, count_chain, count_drawn, count_interleaved, count_nodes};
+use bench_texts::{
+    count_collisions, count_counts, count_domains, count_lines, count_names, count_rows,
+    count_valued,
+};
 use layer::{Job, Layer};
 use std::alloc::Global;
 use std::env;
@@ -25,7 +19,7 @@ use std::rt::Env;
 
 /// What is told of words that name no jobs.
 const USAGE: &str =
-    "usage: balm_bench LAYER SIZE .. (a layer is lines, names, nodes, interleaved, blocked, rows, domains, collisions, counts or valued)";
+    "usage: balm_bench LAYER SIZE .. (a layer is lines, names, nodes, interleaved, blocked, rows, domains, collisions, counts, valued, chain or drawn)";
 
 fn main(rt: HostRuntime) -> Result<()> {
     let words = words(&rt, rt.alloc())?;
@@ -70,28 +64,21 @@ fn jobs(alloc: Global, words: &[String]) -> Result<Vec<Job>>
 fn run(rt: &impl Print, alloc: Global, job: &Job) -> Result<()> {
     let size = job.size;
     match job.layer {
-        Layer::Lines => println!(rt; "lines {size}: {}", lines::count_lines(alloc, size)?)?,
-        Layer::Names => println!(rt; "names {size}: {}", names::count_names(alloc, size)?)?,
-        Layer::Nodes => println!(rt; "nodes {size}: {}", nodes::count_nodes(alloc, size)?)?,
+        Layer::Lines => println!(rt; "lines {size}: {}", count_lines(alloc, size)?)?,
+        Layer::Names => println!(rt; "names {size}: {}", count_names(alloc, size)?)?,
+        Layer::Nodes => println!(rt; "nodes {size}: {}", count_nodes(alloc, size)?)?,
         Layer::Interleaved => println!(rt;
             "interleaved {size}: {}",
-            conjunctions::count_interleaved(alloc, size)?
+            count_interleaved(alloc, size)?
         )?,
-        Layer::Blocked => println!(rt;
-            "blocked {size}: {}",
-            conjunctions::count_blocked(alloc, size)?
-        )?,
-        Layer::Rows => println!(rt; "rows {size}: {}", table_rows::count_rows(alloc, size)?)?,
-        Layer::Domains => println!(rt; "domains {size}: {}", domains::count_domains(alloc, size)?)?,
-        Layer::Collisions => println!(rt;
-            "collisions {size}: {}",
-            collisions::count_collisions(alloc, size)?
-        )?,
-        Layer::Counts => println!(rt;
-            "counts {size}: {}",
-            value_counts::count_counts(alloc, size)?
-        )?,
-        Layer::Valued => println!(rt; "valued {size}: {}", valued::count_valued(alloc, size)?)?,
+        Layer::Blocked => println!(rt; "blocked {size}: {}", count_blocked(alloc, size)?)?,
+        Layer::Rows => println!(rt; "rows {size}: {}", count_rows(alloc, size)?)?,
+        Layer::Domains => println!(rt; "domains {size}: {}", count_domains(alloc, size)?)?,
+        Layer::Collisions => println!(rt; "collisions {size}: {}", count_collisions(alloc, size)?)?,
+        Layer::Counts => println!(rt; "counts {size}: {}", count_counts(alloc, size)?)?,
+        Layer::Valued => println!(rt; "valued {size}: {}", count_valued(alloc, size)?)?,
+        Layer::Chain => println!(rt; "chain {size}: {}", count_chain(alloc, size)?)?,
+        Layer::Drawn => println!(rt; "drawn {size}: {}", count_drawn(alloc, size)?)?,
     }
     Ok(())
 }

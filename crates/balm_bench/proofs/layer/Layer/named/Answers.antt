@@ -1,6 +1,6 @@
 use Rattle.std.proofs.Common.{◌≡◌, arith}
 use Rattle.balm_bench.specs.declared.layer.Layer.{Layer}
-use Rattle.balm_bench.specs.declared.layer.Layer.TheVariants.{Lines, Names, Nodes, Interleaved, Blocked, Rows, Domains, Collisions, Counts, Valued}
+use Rattle.balm_bench.specs.declared.layer.Layer.TheVariants.{Lines, Names, Nodes, Interleaved, Blocked, Rows, Domains, Collisions, Counts, Valued, Chain, Drawn}
 use Rattle.balm_bench.specs.LayerNames.{name_of}
 use Rattle.balm_bench.proofs.layer.Layer.named.Goals as goal
 
@@ -18,3 +18,5 @@ returns-clause-unknown c = unknown
     unknown Collisions = c.loop-layer.invariant 7 Lines (omega (arith, c.loop-layer.auto.layer-index-end))
     unknown Counts = c.loop-layer.invariant 8 Lines (omega (arith, c.loop-layer.auto.layer-index-end))
     unknown Valued = c.loop-layer.invariant 9 Lines (omega (arith, c.loop-layer.auto.layer-index-end))
+    unknown Chain = c.loop-layer.invariant 10 Lines (omega (arith, c.loop-layer.auto.layer-index-end))
+    unknown Drawn = c.loop-layer.invariant 11 Lines (omega (arith, c.loop-layer.auto.layer-index-end))

@@ -1,6 +1,0 @@
-use Rattle.std.proofs.Common.{ℕ, ◌+◌, ◌*◌, ◌/◌, ◌<◌}
-use Rattle.balm_bench.proofs.nodes.rows_for.Given as goal
-
--- the rows that were tried have no room
-abbrev pub invariant-loop-rows : goal.invariant-loop-rows
-invariant-loop-rows l = (k : ℕ) → k < l.rows → k * (k + 1) / 2 < l.size
