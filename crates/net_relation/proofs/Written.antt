@@ -32,13 +32,13 @@ either true b is = inl refl
 either false b is = inr is
 
 -- a level of a spot that is apart from others is none of theirs
-apart-out : (spot : Layout) (spots : List Layout) → All (AreApart spot) spots → (k : ℕ) → is_in (levels_of spot) k ≡ true → is_in (all_levels spots) k ≡ false
+pub apart-out : (spot : Layout) (spots : List Layout) → All (AreApart spot) spots → (k : ℕ) → is_in (levels_of spot) k ≡ true → is_in (all_levels spots) k ≡ false
 apart-out spot [] apart k is = refl
 apart-out spot (other ∷ spots) apart k is =
     rw (list_any-append (λ l. l == k) (levels_of other) (all_levels spots)) (rw (head (AreApart spot) other spots apart k is) (apart-out spot spots (tail (AreApart spot) other spots apart) k is))
 
 -- what is said of each spot holds at the levels of all
-each-level : (P : ℕ → Type 0) (spots : List Layout) → All (λ spot. (k : ℕ) → is_in (levels_of spot) k ≡ true → P k) spots → (k : ℕ) → is_in (all_levels spots) k ≡ true → P k
+pub each-level : (P : ℕ → Type 0) (spots : List Layout) → All (λ spot. (k : ℕ) → is_in (levels_of spot) k ≡ true → P k) spots → (k : ℕ) → is_in (all_levels spots) k ≡ true → P k
 each-level P [] all k is = absurd (false≢true is)
 each-level P (spot ∷ spots) all k is =
     elim (either (is_in (levels_of spot) k) (is_in (all_levels spots) k) (sym (list_any-append (λ l. l == k) (levels_of spot) (all_levels spots)) ∙ is)) [
