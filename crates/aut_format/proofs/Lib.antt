@@ -2,3 +2,11 @@ pub mod Entries
 pub mod Joins
 pub mod Written
 pub mod Meaning
+pub mod Numbers
+pub mod Along
+pub mod Literals
+pub mod Parts
+pub mod Places
+pub mod Steps
+pub mod Printing
+pub mod Counting

@@ -7,7 +7,7 @@ use Rattle.net_model.specs.Printed.{IsPrintable, printed_text}
 use Rattle.printed_nets.proofs.Meant.{printed_automaton, printed_means}
 
 -- `solution` can be the name of a model
-solution_is_name : IsTextName (codes "solution")
+pub solution_is_name : IsTextName (codes "solution")
 solution_is_name = record { word = refl; name_is = refl }
 
 -- the printed text of an automaton stands for one over the same letters

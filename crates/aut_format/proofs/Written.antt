@@ -42,9 +42,9 @@ table_written t t₁ t₂ t₃ names e₁ e₂ e₃ =
     regroup a b c d e = simp append_assoc
 
 -- the parts of a printed text
-pub printed_text-parts : (auto : Listing) →
-    printed_text (codes "solution") auto
-    ≡ codes ".model solution\n"
+pub printed_text-parts : (name : List ℕ) (auto : Listing) →
+    printed_text name auto
+    ≡ line_bytes (codes ".model" ∷ name ∷ [])
     ++ (line_bytes (codes ".inputs" ∷ names_of auto.vars)
     ++ (codes ".outputs Acc\n"
     ++ (flat_map line_bytes (map domain_line auto.vars)
@@ -53,18 +53,19 @@ pub printed_text-parts : (auto : Listing) →
     ++ (flat_map line_bytes (mark_lines 0 auto.accepting)
     ++ (line_bytes (table_head (names_of auto.vars))
     ++ (flat_map line_bytes (map (row_line auto.vars) auto.rows) ++ codes ".end\n"))))))))
-printed_text-parts auto =
+printed_text-parts name auto =
+    let model = line_bytes (codes ".model" ∷ name ∷ []) in
     let inputs = line_bytes (codes ".inputs" ∷ names_of auto.vars) in
     let domains = flat_map line_bytes (map domain_line auto.vars) in
     let states = line_bytes (states_line (length auto.accepting)) in
     let marks = flat_map line_bytes (mark_lines 0 auto.accepting) in
     let table = line_bytes (table_head (names_of auto.vars)) in
     let last = map (row_line auto.vars) auto.rows ++ ((codes ".end" ∷ []) ∷ []) in
-    ap (λ t. codes ".model solution\n" ++ (inputs ++ (codes ".outputs Acc\n" ++ t)))
+    ap (λ t. model ++ (inputs ++ (codes ".outputs Acc\n" ++ t)))
     (flat_map-append line_bytes (map domain_line auto.vars) (states_line (length auto.accepting) ∷ (codes ".latch" ∷ codes "NS" ∷ codes "CS" ∷ []) ∷ (codes ".reset" ∷ codes "CS" ∷ []) ∷ (codes "s0" ∷ []) ∷ (codes ".table" ∷ codes "CS" ∷ codes "->" ∷ codes "Acc" ∷ []) ∷ (mark_lines 0 auto.accepting ++ (table_head (names_of auto.vars) ∷ last))))
-    ∙ ap (λ t. codes ".model solution\n" ++ (inputs ++ (codes ".outputs Acc\n" ++ (domains ++ (states ++ (codes ".latch NS CS\n.reset CS\ns0\n.table CS -> Acc\n" ++ t))))))
+    ∙ ap (λ t. model ++ (inputs ++ (codes ".outputs Acc\n" ++ (domains ++ (states ++ (codes ".latch NS CS\n.reset CS\ns0\n.table CS -> Acc\n" ++ t))))))
     (flat_map-append line_bytes (mark_lines 0 auto.accepting) (table_head (names_of auto.vars) ∷ last))
-    ∙ ap (λ t. codes ".model solution\n" ++ (inputs ++ (codes ".outputs Acc\n" ++ (domains ++ (states ++ (codes ".latch NS CS\n.reset CS\ns0\n.table CS -> Acc\n" ++ (marks ++ (table ++ t))))))))
+    ∙ ap (λ t. model ++ (inputs ++ (codes ".outputs Acc\n" ++ (domains ++ (states ++ (codes ".latch NS CS\n.reset CS\ns0\n.table CS -> Acc\n" ++ (marks ++ (table ++ t))))))))
     (flat_map-append line_bytes (map (row_line auto.vars) auto.rows) ((codes ".end" ∷ []) ∷ []))
 
 -- a text written part by part
@@ -72,8 +73,8 @@ parts_written : (t₁ t₂ t₃ t₄ t₅ t₆ t₇ t₈ t₉ t₀ a b c d e f g
 parts_written t₁ t₂ t₃ t₄ t₅ t₆ t₇ t₈ t₉ t₀ a b c d e f g h i j e₁ e₂ e₃ e₄ e₅ e₆ e₇ e₈ e₉ e₀ = simp (e₀, e₉, e₈, e₇, e₆, e₅, e₄, e₃, e₂, e₁, append_assoc)
 
 -- the text of an automaton, written part by part
-pub solution_written : (auto : Listing) (t₁ t₂ t₃ t₄ t₅ t₆ t₇ t₈ t₉ t₀ : List ℕ) →
-    t₁ ≡ codes ".model solution\n"
+pub auto_written : (name : List ℕ) (auto : Listing) (t₁ t₂ t₃ t₄ t₅ t₆ t₇ t₈ t₉ t₀ : List ℕ) →
+    t₁ ≡ line_bytes (codes ".model" ∷ name ∷ [])
     → t₂ ≡ t₁ ++ line_bytes (codes ".inputs" ∷ names_of auto.vars)
     → t₃ ≡ t₂ ++ codes ".outputs Acc\n"
     → t₄ ≡ t₃ ++ flat_map line_bytes (map domain_line auto.vars)
@@ -83,9 +84,9 @@ pub solution_written : (auto : Listing) (t₁ t₂ t₃ t₄ t₅ t₆ t₇ t₈
     → t₈ ≡ t₇ ++ line_bytes (table_head (names_of auto.vars))
     → t₉ ≡ t₈ ++ flat_map line_bytes (map (row_line auto.vars) auto.rows)
     → t₀ ≡ t₉ ++ codes ".end\n"
-    → t₀ ≡ printed_text (codes "solution") auto
-solution_written auto t₁ t₂ t₃ t₄ t₅ t₆ t₇ t₈ t₉ t₀ e₁ e₂ e₃ e₄ e₅ e₆ e₇ e₈ e₉ e₀ =
-    parts_written t₁ t₂ t₃ t₄ t₅ t₆ t₇ t₈ t₉ t₀ _ _ _ _ _ _ _ _ _ _ e₁ e₂ e₃ e₄ e₅ e₆ e₇ e₈ e₉ e₀ ∙ sym (printed_text-parts auto)
+    → t₀ ≡ printed_text name auto
+auto_written name auto t₁ t₂ t₃ t₄ t₅ t₆ t₇ t₈ t₉ t₀ e₁ e₂ e₃ e₄ e₅ e₆ e₇ e₈ e₉ e₀ =
+    parts_written t₁ t₂ t₃ t₄ t₅ t₆ t₇ t₈ t₉ t₀ _ _ _ _ _ _ _ _ _ _ e₁ e₂ e₃ e₄ e₅ e₆ e₇ e₈ e₉ e₀ ∙ sym (printed_text-parts name auto)
 
 -- a list of names, written piece by piece
 pub list_written : (t t₁ t₂ t₃ t₄ first : List ℕ) (names : List (List ℕ)) → t₁ ≡ t ++ codes "(" → t₂ ≡ t₁ ++ first → t₃ ≡ t₂ ++ comma_before names → t₄ ≡ t₃ ++ codes ")" → t₄ ≡ t ++ (codes "(" ++ (join_with_byte 44 (first ∷ names) ++ codes ")"))

@@ -1,1 +1,4 @@
 pub mod Fields
+pub mod Rows
+pub mod Counts
+pub mod Memos

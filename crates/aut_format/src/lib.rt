@@ -1,10 +1,16 @@
 //! Automata as text, in the layout of BALM's automaton files.
 #![tactic(auto)]
 
+mod auto;
 mod automaton;
+mod counts;
 mod fields;
+mod letters;
 mod lines;
+mod rows;
 mod write;
 
+pub use auto::{auto_text, write_auto};
 pub use automaton::as_auto;
+pub use counts::rows_of;
 pub use write::write_listed;

@@ -77,7 +77,8 @@ pub fn push_mark_lines(text: &mut Vec<u8>, accepting: &[bool]) -> Result<(), All
     Ok(())
 }
 
-fn push_mark_line(text: &mut Vec<u8>, state: usize, mark: bool) -> Result<(), AllocError>
+/// The line of one state.
+pub fn push_mark_line(text: &mut Vec<u8>, state: usize, mark: bool) -> Result<(), AllocError>
     ensures { OnOk result (text.new.items ≡ text.old.items ++ line_bytes (state_name state ∷ mark_field mark ∷ [])) }
 {
     push_state(text, state)?;

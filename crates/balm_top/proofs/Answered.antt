@@ -1,17 +1,15 @@
 use Rattle.std.proofs.Common.{◌≡◌, ◌↔◌, Bool, true, false, ℕ, List, Option, inl, inr, if◌then◌else◌, MatchBool, refl, sym, subst}
 use Rattle.io_core.specs.Files.{Files}
 use Rattle.io_core.specs.Gained.{gained}
-use Rattle.net_model.specs.Words.{Word, Scope}
-use Rattle.net_model.specs.Equation.{Topology, IsSafe}
-use Rattle.net_model.specs.Listings.{ListingWords, listing_of}
-use Rattle.net_model.specs.Nets.{Net}
-use Rattle.net_model.specs.NetLanguages.{letters_of, NetWords, Means, StandsForAutomaton}
+use Rattle.net_model.specs.Words.{Word}
+use Rattle.net_model.specs.NetLanguages.{letters_of}
 use Rattle.net_model.proofs.Largest.{safe_words_are_largest}
-use Rattle.listed_solve.specs.declared.solve.Solution.{Solution}
-use Rattle.balm_top.specs.Refusals.{topology_of}
+use Rattle.solution_text.specs.declared.solution.Solution.{Solution}
+use Rattle.solution_text.specs.Solutions.{MeansText}
+use Rattle.balm_top.specs.Refusals.{topology_of, problem_for}
 use Rattle.balm_top.specs.Answers.{IsAnswer, IsVerdict, SolveIsExact, UsageRightly, WriteFaultRightly, MemoryRightly, GainsFrontOfAnswer}
 use Rattle.fault_lines.specs.Statuses.{IsFinished}
-use Rattle.balm_top.specs.Stops.{Solves, SolvesRightly, IsSolved, MeansSolution, AnswersRightly, text_of}
+use Rattle.balm_top.specs.Stops.{Solves, SolvesRightly, AnswersRightly, text_of}
 use Rattle.fault_lines.specs.declared.status.Status.{Status}
 use Rattle.fault_lines.specs.declared.status.Status.TheVariants.{Done, Negative, Usage, Refused, Limit, NodeLimit, ReadFault, WriteFault, Memory}
 
@@ -25,36 +23,26 @@ unfolding verdict_of
 finished true = tt
 finished false = tt
 
--- the words of a text that means a solution
-module _ (topology : Topology) (f s : Net) (solution : Solution) (solved : IsSolved topology f s solution) (means : MeansSolution solution) where
-  means_x : (x : Word) → Means (text_of solution) topology.x x ↔ ListingWords (listing_of solution.auto) x
-  means_x = subst (λ (vars : Scope). (x : Word) → Means (text_of solution) vars x ↔ ListingWords (listing_of solution.auto) x) solved.letters means.words
-
-  automaton_x : StandsForAutomaton (text_of solution) topology.x
-  automaton_x = subst (λ (vars : Scope). StandsForAutomaton (text_of solution) vars) solved.letters means.automaton
-
-  means_safe : (x : Word) → Means (text_of solution) topology.x x ↔ IsSafe topology (NetWords f) (NetWords s) x
-  means_safe x = (λ m. (solved.exact x).0 ((means_x x).0 m), λ safe. (means_x x).1 ((solved.exact x).1 safe))
-
-  verdict_is : (has : Bool) → MatchBool has ((x : Word) × ListingWords (listing_of solution.auto) x) ((x : Word) → ListingWords (listing_of solution.auto) x → ⊥) → IsVerdict (verdict_of has) (Means (text_of solution) topology.x)
+-- the verdict on the words of a text
+module _ (words : List (List ℕ)) (files : Files) (solution : Solution) (solves : Solves words files solution) where
+  verdict_is : (has : Bool) → MatchBool has ((x : Word) × MeansText (problem_for solves.job solves.f solves.s) solution x) ((x : Word) → MeansText (problem_for solves.job solves.f solves.s) solution x → ⊥)
+      → IsVerdict (verdict_of has) (MeansText (problem_for solves.job solves.f solves.s) solution)
   unfolding verdict_of
-  verdict_is true h = (h.0, (means_x h.0).1 h.1)
-  verdict_is false h = λ x m. h x ((means_x x).0 m)
+  verdict_is true h = h
+  verdict_is false h = h
 
--- the text of a solution is the answer
-is_answer : (words : List (List ℕ)) (files : Files) (solution : Solution) → Solves words files solution → MeansSolution solution → IsAnswer words files (verdict_of solution.has_word) (text_of solution)
-is_answer words files solution solves means =
-    let topology = topology_of solves.job (letters_of solves.f) (letters_of solves.s) in
-    record {
-      job = solves.job;
-      f = solves.f;
-      s = solves.s;
-      problem = solves.problem;
-      automaton = automaton_x topology solves.f solves.s solution solves.solved means;
-      exact = means_safe topology solves.f solves.s solution solves.solved means;
-      solution = safe_words_are_largest topology _ _ _ (means_safe topology solves.f solves.s solution solves.solved means);
-      verdict = verdict_is topology solves.f solves.s solution solves.solved means solution.has_word solves.solved.verdict;
-    }
+  -- the text of a solution is the answer
+  is_answer : IsAnswer words files (verdict_of solution.has_word) (text_of solution)
+  is_answer = record {
+    job = solves.job;
+    f = solves.f;
+    s = solves.s;
+    problem = solves.problem;
+    automaton = solves.solved.automaton;
+    exact = solves.solved.exact;
+    solution = safe_words_are_largest (topology_of solves.job (letters_of solves.f) (letters_of solves.s)) _ _ _ solves.solved.exact;
+    verdict = verdict_is solution.has_word solves.solved.verdict;
+  }
 
 -- statuses that differ
 done_is_no_write_fault : Done ≡ WriteFault → ⊥
@@ -72,22 +60,14 @@ done_is_no_memory is = cc
 negative_is_no_memory : Negative ≡ Memory → ⊥
 negative_is_no_memory is = cc
 
--- the status where all was printed
-pub answers_verdict : (old new : Option (List ℕ)) (faults faults' wants wants' : ℕ) (Told : List ℕ → Type 0) (Quiet : Type 0) (solution : Solution) → new ≡ gained old (text_of solution) → Quiet → AnswersRightly solution old new faults faults' wants wants' Told Quiet (if solution.has_word then Done else Negative)
-answers_verdict old new faults faults' wants wants' Told Quiet solution is quiet = by solution.has_word refl
-  where
-    by : (has : Bool) → solution.has_word ≡ has → AnswersRightly solution old new faults faults' wants wants' Told Quiet (if has then Done else Negative)
-    by true e = (is, e, quiet)
-    by false e = (is, e, quiet)
-
 -- What the printing of a solution leaves.
-module _ (words : List (List ℕ)) (holds : Option Files) (old new : Option (List ℕ)) (faults faults' wants wants' : ℕ) (Told : List ℕ → Type 0) (Quiet : Type 0) (solution : Solution) (solves : SolvesRightly words holds solution) (means : MeansSolution solution) where
+module _ (words : List (List ℕ)) (holds : Option Files) (old new : Option (List ℕ)) (faults faults' wants wants' : ℕ) (Told : List ℕ → Type 0) (Quiet : Type 0) (solution : Solution) (solves : SolvesRightly words holds solution) where
   pub answer_is_exact : (status : Status) → AnswersRightly solution old new faults faults' wants wants' Told Quiet status → SolveIsExact words holds old new status
   unfolding verdict_of
   answer_is_exact Done a = λ _ files held.
-      (text_of solution, a.0, subst (λ has. IsAnswer words files (verdict_of has) (text_of solution)) a.1 (is_answer words files solution (solves.solves files held) means))
+      (text_of solution, a.0, subst (λ has. IsAnswer words files (verdict_of has) (text_of solution)) a.1 (is_answer words files solution (solves.solves files held)))
   answer_is_exact Negative a = λ _ files held.
-      (text_of solution, a.0, subst (λ has. IsAnswer words files (verdict_of has) (text_of solution)) a.1 (is_answer words files solution (solves.solves files held) means))
+      (text_of solution, a.0, subst (λ has. IsAnswer words files (verdict_of has) (text_of solution)) a.1 (is_answer words files solution (solves.solves files held)))
   answer_is_exact Usage a = absurd a
   answer_is_exact Refused a = absurd a
   answer_is_exact Limit a = absurd a
@@ -104,8 +84,8 @@ module _ (words : List (List ℕ)) (holds : Option Files) (old new : Option (Lis
   answer_front Limit a = absurd a
   answer_front NodeLimit a = absurd a
   answer_front ReadFault a = absurd a
-  answer_front WriteFault a = λ _. inr (λ files held. (text_of solution, verdict_of solution.has_word, finished solution.has_word, a.0, is_answer words files solution (solves.solves files held) means))
-  answer_front Memory a = λ _. inr (λ files held. (text_of solution, verdict_of solution.has_word, finished solution.has_word, a.0, is_answer words files solution (solves.solves files held) means))
+  answer_front WriteFault a = λ _. inr (λ files held. (text_of solution, verdict_of solution.has_word, finished solution.has_word, a.0, is_answer words files solution (solves.solves files held)))
+  answer_front Memory a = λ _. inr (λ files held. (text_of solution, verdict_of solution.has_word, finished solution.has_word, a.0, is_answer words files solution (solves.solves files held)))
 
   pub answer_write_fault : (status : Status) → AnswersRightly solution old new faults faults' wants wants' Told Quiet status → WriteFaultRightly words holds faults faults' Told status
   answer_write_fault Done a = λ is. absurd (done_is_no_write_fault is)

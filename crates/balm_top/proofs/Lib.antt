@@ -1,5 +1,4 @@
-pub mod Answered
-pub mod GoodNames
-pub mod Reading
 pub mod Stopped
-pub mod Worked
+pub mod Reading
+pub mod Solving
+pub mod Answered

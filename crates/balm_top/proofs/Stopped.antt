@@ -11,7 +11,7 @@ use Rattle.fault_lines.specs.Stops.{fault_status, told_refusal, names_status, to
 use Rattle.fault_lines.specs.declared.status.Status.{Status}
 use Rattle.fault_lines.specs.declared.status.Status.TheVariants as status
 use Rattle.fault_lines.specs.declared.stop.Stop.{Stop}
-use Rattle.fault_lines.specs.declared.stop.Stop.TheVariants.{NoJob, Unreadable, TooLong, Faulty, BadNames, TooBig, Memory}
+use Rattle.fault_lines.specs.declared.stop.Stop.TheVariants.{NoJob, Unreadable, TooLong, Faulty, BadNames, TooManyBits, Memory}
 use Rattle.job_files.specs.Reads.{IsWithin, HasFault, StopsAtFile}
 use Rattle.balm_top.specs.Answers.{UsageRightly, RefusedRightly}
 use Rattle.balm_top.specs.Refusals as refusals
@@ -47,7 +47,7 @@ module _ (words : List (List ℕ)) (holds : Option Files) (faults between faults
         (job, job_is, all.0, all.1, all.2);
   }
   stops_at_file (BadNames refusal) h = absurd h
-  stops_at_file (TooBig asked) h = absurd h
+  stops_at_file TooManyBits h = absurd h
   stops_at_file Memory h = tt
 
 -- A stop once both files are read is a stop of the whole.
@@ -63,7 +63,7 @@ module _ (words : List (List ℕ)) (holds : Option Files) (faults faults' : List
   stops_work (TooLong name) h = absurd h
   stops_work (Faulty name line kind) h = absurd h
   stops_work (BadNames refusal) h = names_stop (told_refusal refusal) h
-  stops_work (TooBig name) h = record { job = job; job_is = job_is; refuses = λ files held. (job, f, s, read files held, h.0, h.1, h.2) }
+  stops_work TooManyBits h = record { job = job; job_is = job_is; refuses = λ files held. (job, f, s, read files held, h.0, h.1) }
   stops_work Memory h = tt
 
 -- a fault of a text has one of two statuses
@@ -109,14 +109,14 @@ no_read_fault refusals.NoJob is = cc
 no_read_fault (refusals.TooLong name) is = cc
 no_read_fault (refusals.Faulty name line kind) is = (fault_is_none kind).1 is
 no_read_fault (refusals.BadNames refusal) is = cc
-no_read_fault (refusals.TooBig name) is = cc
+no_read_fault refusals.TooManyBits is = cc
 
 no_memory : (refusal : refusals.Refusal) → refusals.status_of refusal ≡ status.Memory → ⊥
 no_memory refusals.NoJob is = cc
 no_memory (refusals.TooLong name) is = cc
 no_memory (refusals.Faulty name line kind) is = (fault_is_none kind).3 is
 no_memory (refusals.BadNames refusal) is = cc
-no_memory (refusals.TooBig name) is = cc
+no_memory refusals.TooManyBits is = cc
 
 -- nor is a refusal of names a fault of use
 names_no_usage : (refusal : Option problems.NameRefusal) → names_status refusal ≡ status.Usage → ⊥
@@ -135,7 +135,7 @@ no_write_fault (Unreadable name) is = cc
 no_write_fault (TooLong name) is = cc
 no_write_fault (Faulty name line kind) is = (fault_is_none kind).2 is
 no_write_fault (BadNames refusal) is = names_no_write_fault (told_refusal refusal) is
-no_write_fault (TooBig name) is = cc
+no_write_fault TooManyBits is = cc
 no_write_fault Memory is = cc
 
 names_memory : (Told : List ℕ → Type 0) (refusal : Option problems.NameRefusal) → Told (told_line refusal) → names_status refusal ≡ status.Memory → Told memory_line
@@ -149,7 +149,7 @@ memory_told Told (Unreadable name) told is = cc
 memory_told Told (TooLong name) told is = cc
 memory_told Told (Faulty name line kind) told is = absurd ((fault_is_none kind).3 is)
 memory_told Told (BadNames refusal) told is = names_memory Told (told_refusal refusal) told is
-memory_told Told (TooBig name) told is = cc
+memory_told Told TooManyBits told is = cc
 memory_told Told Memory told is = told
 
 -- What a stop says of the words, the line and the counts.
@@ -160,7 +160,7 @@ module _ (words : List (List ℕ)) (holds : Option Files) (faults faults' : List
   usage_is_no_job (TooLong name) h is = cc
   usage_is_no_job (Faulty name line kind) h is = absurd ((fault_is_none kind).0 is)
   usage_is_no_job (BadNames refusal) h is = absurd (names_no_usage (told_refusal refusal) is)
-  usage_is_no_job (TooBig name) h is = cc
+  usage_is_no_job TooManyBits h is = cc
   usage_is_no_job Memory h is = cc
 
   names_no_job : (refusal : Option problems.NameRefusal) → RefusesNamesHeld words holds refusal → UsageRightly words (names_status refusal)
@@ -173,7 +173,7 @@ module _ (words : List (List ℕ)) (holds : Option Files) (faults faults' : List
   no_job_is_usage (TooLong name) h = λ none. absurd (none h.job h.job_is)
   no_job_is_usage (Faulty name line kind) h = λ none. absurd (none h.job h.job_is)
   no_job_is_usage (BadNames refusal) h = names_no_job (told_refusal refusal) h
-  no_job_is_usage (TooBig name) h = λ none. absurd (none h.job h.job_is)
+  no_job_is_usage TooManyBits h = λ none. absurd (none h.job h.job_is)
   no_job_is_usage Memory h = λ none. inr refl
 
   refused_names : (Told : List ℕ → Type 0) (refusal : Option problems.NameRefusal) → RefusesNamesHeld words holds refusal → Told (told_line refusal) → RefusedRightly words holds Told (names_status refusal)
@@ -186,5 +186,5 @@ module _ (words : List (List ℕ)) (holds : Option Files) (faults faults' : List
   refused_rightly Told (TooLong name) h told = λ _. (refusals.TooLong name.now, refl, told, h.refuses)
   refused_rightly Told (Faulty name line kind) h told = λ _. (refusals.Faulty name.now line kind, refl, told, h.refuses)
   refused_rightly Told (BadNames refusal) h told = refused_names Told (told_refusal refusal) h told
-  refused_rightly Told (TooBig name) h told = λ _. (refusals.TooBig name.now, refl, told, h.refuses)
+  refused_rightly Told TooManyBits h told = λ _. (refusals.TooManyBits, refl, told, h.refuses)
   refused_rightly Told Memory h told = λ refused. absurd (no_memory refused.0 refused.1)

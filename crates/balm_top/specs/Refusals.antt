@@ -1,23 +1,22 @@
-use Rattle.std.specs.Prelude.{◌≡◌, ◌⊎◌, ℕ, List, Some, None}
+use Rattle.std.specs.Prelude.{◌≡◌, ◌≤◌, ◌<◌, ◌⊎◌, ℕ, List, Some, None}
 use Rattle.io_core.specs.Files.{Files, bytes_under}
 use Rattle.net_model.specs.Words.{Scope}
 use Rattle.net_model.specs.Equation.{Topology}
 use Rattle.net_model.specs.Nets.{Net}
 use Rattle.net_model.specs.NetLanguages.{letters_of}
-use Rattle.net_model.specs.Topologies.{joint_scope, sync_topology}
-use Rattle.net_model.specs.Problems.{NetFile, NameRefusal, first_refusal}
+use Rattle.net_model.specs.Topologies.{sync_topology}
+use Rattle.net_model.specs.Problems.{NetFile, NameRefusal, Problem, problem_of, first_refusal}
+use Rattle.net_problem.specs.ProblemBits.{problem_bits}
 use Rattle.net_model.specs.declared.class.Mode.TheVariants.{Sync}
 use Rattle.net_model.specs.declared.text_fault.TextKind.{TextKind}
-use Rattle.net_model.specs.declared.text_fault.TextKind.TheVariants as kinds
-use Rattle.listed_nets.specs.Small.{IsSmall}
 use Rattle.job_words.specs.Jobs.{Job, IsJob, HasNoJob}
-use Rattle.fault_lines.specs.Lines.{usage_line, long_line, fault_line, names_line}
+use Rattle.fault_lines.specs.Lines.{usage_line, long_line, fault_line, names_line, bits_line}
 use Rattle.fault_lines.specs.Stops.{fault_status}
 use Rattle.fault_lines.specs.declared.status.Status.{Status}
 use Rattle.fault_lines.specs.declared.status.Status.TheVariants as status
 use Rattle.job_files.specs.Reads.{IsWithin, IsReadAs, HasFault}
 
--- The files and the names of a job are refused step by step: F's file, S's file, the names, the size. Each refusal says
+-- The files and the names of a job are refused step by step: F's file, S's file, the names, the bits. Each refusal says
 -- that no step before it refuses, so one refusal at most is possible.
 
 -- the equation of a job, for files with these letters
@@ -41,15 +40,19 @@ RefusesNames job f s refusal = first_refusal Sync (NetFile f) (NetFile s) job.in
 abbrev pub AcceptsNames : Job → Net → Net → Type 0
 AcceptsNames job f s = first_refusal Sync (NetFile f) (NetFile s) job.ins job.outs ≡ None
 
--- the problem is small enough to be listed
-abbrev pub IsSmallProblem : Net → Net → Type 0
-IsSmallProblem f s = IsSmall (joint_scope (letters_of f) (letters_of s)) f s
+-- the problem of a job whose files are these networks
+abbrev pub problem_for : Job → Net → Net → Problem
+problem_for job f s = problem_of Sync (NetFile f) (NetFile s) job.ins job.outs
+
+-- how many bits it has
+abbrev pub bits_of_job : Job → Net → Net → ℕ
+bits_of_job job f s = problem_bits (problem_for job f s) None
 
 -- nothing is refused before the work
 pub record IsProblem (words : List (List ℕ)) (files : Files) (job : Job) (f s : Net) : Type 0 where
   pub read : AreRead words files job f s
   pub names : AcceptsNames job f s
-  pub small : IsSmallProblem f s
+  pub few : bits_of_job job f s ≤ 2000
 
 -- what the program refuses, with the name of the file that the line tells
 pub data Refusal : Type 0 where
@@ -57,14 +60,14 @@ pub data Refusal : Type 0 where
   TooLong : (name : List ℕ) → Refusal
   Faulty : (name : List ℕ) → (line : ℕ) → (kind : TextKind) → Refusal
   BadNames : (refusal : NameRefusal) → Refusal
-  TooBig : (name : List ℕ) → Refusal
+  TooManyBits : Refusal
 
 abbrev pub status_of : Refusal → Status
 status_of NoJob = status.Usage
 status_of (TooLong name) = status.Limit
 status_of (Faulty name line kind) = fault_status kind
 status_of (BadNames refusal) = status.Refused
-status_of (TooBig name) = status.Refused
+status_of TooManyBits = status.Limit
 
 -- the line that the program tells
 abbrev pub line_of : Refusal → List ℕ
@@ -72,7 +75,7 @@ line_of NoJob = usage_line
 line_of (TooLong name) = long_line name
 line_of (Faulty name line kind) = fault_line name line kind
 line_of (BadNames refusal) = names_line refusal
-line_of (TooBig name) = fault_line name 1 kinds.Small
+line_of TooManyBits = bits_line
 
 -- the words and the files are refused so
 abbrev pub Refuses : List (List ℕ) → Files → Refusal → Type 0
@@ -87,11 +90,5 @@ Refuses words files (Faulty name line kind) =
     × HasFault (bytes_under files name) line kind
 Refuses words files (BadNames refusal) =
     (job : Job) × (f : Net) × (s : Net) × AreRead words files job f s × RefusesNames job f s refusal
-Refuses words files (TooBig name) =
-    (job : Job)
-    × (f : Net)
-    × (s : Net)
-    × AreRead words files job f s
-    × AcceptsNames job f s
-    × (IsSmallProblem f s → ⊥)
-    × (name ≡ job.s)
+Refuses words files TooManyBits =
+    (job : Job) × (f : Net) × (s : Net) × AreRead words files job f s × AcceptsNames job f s × (2000 < bits_of_job job f s)

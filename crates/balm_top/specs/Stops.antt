@@ -1,25 +1,21 @@
-use Rattle.std.specs.Prelude.{◌≡◌, ◌↔◌, ◌⊎◌, ℕ, true, false, List, codes, Option, Some, None, MatchBool}
+use Rattle.std.specs.Prelude.{◌≡◌, ◌≤◌, ◌<◌, ◌⊎◌, ℕ, true, false, List, Option, Some, None}
 use Rattle.io_core.specs.Files.{Files}
 use Rattle.io_core.specs.Causes.{Rose}
 use Rattle.io_core.specs.Gained.{gained, GainsFrontOf}
-use Rattle.net_model.specs.Words.{Word}
-use Rattle.net_model.specs.Equation.{Topology, IsSafe}
-use Rattle.net_model.specs.Listings.{ListingWords, listing_of}
 use Rattle.net_model.specs.Nets.{Net}
-use Rattle.net_model.specs.NetLanguages.{letters_of, NetWords, Means, StandsForAutomaton}
-use Rattle.net_model.specs.Printed.{IsPrintable, printed_text}
 use Rattle.net_model.specs.Problems as problems
-use Rattle.listed_solve.specs.declared.solve.Solution.{Solution}
+use Rattle.solution_text.specs.declared.solution.Solution.{Solution}
+use Rattle.solution_text.specs.Solutions.{IsSolutionOf}
 use Rattle.job_words.specs.Jobs.{Job, IsJob, HasNoJob}
 use Rattle.fault_lines.specs.Lines.{write_line, memory_line}
 use Rattle.fault_lines.specs.Stops.{told_refusal}
 use Rattle.fault_lines.specs.declared.status.Status.{Status}
 use Rattle.fault_lines.specs.declared.status.Status.TheVariants as status
 use Rattle.fault_lines.specs.declared.stop.Stop.{Stop}
-use Rattle.fault_lines.specs.declared.stop.Stop.TheVariants.{NoJob, Unreadable, TooLong, Faulty, BadNames, TooBig, Memory}
+use Rattle.fault_lines.specs.declared.stop.Stop.TheVariants.{NoJob, Unreadable, TooLong, Faulty, BadNames, TooManyBits, Memory}
 use Rattle.balm_top.specs.Answers.{ReachesOutput}
 use Rattle.balm_top.specs.Refusals as refusals
-use Rattle.balm_top.specs.Refusals.{Refuses, topology_of, IsReached, RefusesNames, AcceptsNames, IsSmallProblem, IsProblem}
+use Rattle.balm_top.specs.Refusals.{Refuses, IsReached, RefusesNames, AcceptsNames, problem_for, bits_of_job, IsProblem}
 
 -- What the steps inside promise each other.
 
@@ -45,12 +41,12 @@ StopsRightly words holds faults faults' (Unreadable name) =
 StopsRightly words holds faults faults' (TooLong name) = RefusesHeld words holds (refusals.TooLong name.now)
 StopsRightly words holds faults faults' (Faulty name line kind) = RefusesHeld words holds (refusals.Faulty name.now line kind)
 StopsRightly words holds faults faults' (BadNames refusal) = RefusesNamesHeld words holds (told_refusal refusal)
-StopsRightly words holds faults faults' (TooBig name) = RefusesHeld words holds (refusals.TooBig name.now)
+StopsRightly words holds faults faults' TooManyBits = RefusesHeld words holds refusals.TooManyBits
 StopsRightly words holds faults faults' Memory = Unit {0}
 
--- the names make a problem that is small enough
+-- the names make a problem that has few enough bits
 abbrev pub IsWorkable : Job → Net → Net → Type 0
-IsWorkable job f s = AcceptsNames job f s × IsSmallProblem f s
+IsWorkable job f s = AcceptsNames job f s × (bits_of_job job f s ≤ 2000)
 
 abbrev pub RefusesNamesOf : Job → Net → Net → Option problems.NameRefusal → Type 0
 RefusesNamesOf job f s None = Unit {0}
@@ -63,16 +59,12 @@ StopsWork job f s (Unreadable name) = ⊥
 StopsWork job f s (TooLong name) = ⊥
 StopsWork job f s (Faulty name line kind) = ⊥
 StopsWork job f s (BadNames refusal) = RefusesNamesOf job f s (told_refusal refusal)
-StopsWork job f s (TooBig name) = AcceptsNames job f s × (IsSmallProblem f s → ⊥) × (name.now ≡ job.s)
+StopsWork job f s TooManyBits = AcceptsNames job f s × (2000 < bits_of_job job f s)
 StopsWork job f s Memory = Unit {0}
 
--- an automaton over X's variables whose words are the safe ones, and whether it has one
-pub record IsSolved (topology : Topology) (f_net s_net : Net) (solution : Solution) : Type 0 where
-  pub letters : (listing_of solution.auto).vars ≡ topology.x
-  pub exact : (word : Word) → ListingWords (listing_of solution.auto) word ↔ IsSafe topology (NetWords f_net) (NetWords s_net) word
-  pub verdict : MatchBool solution.has_word
-      ((word : Word) × ListingWords (listing_of solution.auto) word)
-      ((word : Word) → ListingWords (listing_of solution.auto) word → ⊥)
+-- the solution of a job whose files are these networks
+abbrev pub IsSolved : Job → Net → Net → Solution → Type 0
+IsSolved job f s solution = IsSolutionOf (problem_for job f s) solution
 
 -- the words name a job of which nothing is refused, and this is its solution
 pub record Solves (words : List (List ℕ)) (files : Files) (solution : Solution) : Type 0 where
@@ -80,22 +72,15 @@ pub record Solves (words : List (List ℕ)) (files : Files) (solution : Solution
   pub f : Net
   pub s : Net
   pub problem : IsProblem words files job f s
-  pub solved : IsSolved (topology_of job (letters_of f) (letters_of s)) f s solution
+  pub solved : IsSolved job f s solution
 
 pub record SolvesRightly (words : List (List ℕ)) (holds : Option Files) (solution : Solution) : Type 0 where
-  pub printable : IsPrintable (listing_of solution.auto)
   pub reached : ReachesOutput words holds
   pub solves : (files : Files) → holds ≡ Some files → Solves words files solution
 
 -- the text of a solution
 abbrev pub text_of : Solution → List ℕ
-text_of solution = printed_text (codes "solution") (listing_of solution.auto)
-
--- the text stands for an automaton over the same letters, and means its words
-pub record MeansSolution (solution : Solution) : Type 0 where
-  pub automaton : StandsForAutomaton (text_of solution) (listing_of solution.auto).vars
-  pub words : (word : Word)
-      → Means (text_of solution) (listing_of solution.auto).vars word ↔ ListingWords (listing_of solution.auto) word
+text_of solution = solution.text.items
 
 -- how the printing of a solution ends; `Quiet` says that err is as before
 abbrev pub AnswersRightly : Solution → Option (List ℕ) → Option (List ℕ) → ℕ → ℕ → ℕ → ℕ → (List ℕ → Type 0) → Type 0 → Status → Type 0

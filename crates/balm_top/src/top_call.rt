@@ -3,21 +3,18 @@
 ghost use Rattle.std.specs.Prelude.{◌≡◌, ◌⊎◌, if◌then◌else◌, Err, OnOk, OnErr};
 ghost use Rattle.io_core.specs.Causes.{Rose};
 ghost use Rattle.io_core.specs.Gained.{gained, GainsFrontOf};
-ghost use Rattle.net_model.specs.Listings.{listing_of};
-ghost use Rattle.net_model.specs.Printed.{IsPrintable};
 ghost use Rattle.job_words.specs.Jobs.{HasNoJob};
 ghost use Rattle.fault_lines.specs.Statuses.{IsFinished};
 ghost use Rattle.fault_lines.specs.Stops.{stop_status, stop_line};
 ghost use Rattle.fault_lines.specs.Told.{IsTold};
 ghost use Rattle.balm_top.specs.Answers.{SolveIsExact, ReachesOutput, UsageRightly, RefusedRightly, ReadFaultRightly, WriteFaultRightly, MemoryRightly, KeepsOut, GainsFrontOfAnswer};
-ghost use Rattle.balm_top.specs.Stops.{AnswersRightly, MeansSolution, text_of};
+ghost use Rattle.balm_top.specs.Stops.{AnswersRightly, text_of};
 
 use crate::problem::solution_of;
-use aut_format::write_listed;
 use fault_lines::{Status, Stop, tell};
-use io_core::{Shelf, Sink, WriteFault};
+use io_core::{Shelf, Sink, WriteFault, write_all};
 use job_words::Args;
-use listed_solve::Solution;
+use solution_text::Solution;
 use std::alloc::Global;
 
 /// Does all that the program does. `words` are the words after the program's name; files come from `shelf`, the answer
@@ -59,7 +56,7 @@ pub fn run<H: Shelf, O: Sink, E: Sink>(
     ensures held { H.holds shelf.new ≡ H.holds shelf.old }
 {
     match solution_of(alloc, words, shelf) {
-        Ok(solution) => answer(alloc, &solution, out, err),
+        Ok(solution) => answer(&solution, out, err),
         Err(stop) => refuse(&stop, err),
     }
 }
@@ -75,14 +72,12 @@ fn refuse<'a, E: Sink>(stop: &Stop<'a>, err: &mut E) -> Status
 }
 
 /// Prints the solution.
-fn answer<O: Sink, E: Sink>(alloc: Global, solution: &Solution, out: &mut O, err: &mut E) -> Status
-    requires { IsPrintable (listing_of solution.now.auto) }
-    ensures meaning { MeansSolution solution.now }
+fn answer<O: Sink, E: Sink>(solution: &Solution, out: &mut O, err: &mut E) -> Status
     ensures answers { AnswersRightly solution.now (O.contents out.old) (O.contents out.new) (O.faults out.old) (O.faults out.new) (O.wants out.old) (O.wants out.new)
         (IsTold (E.contents err.old) (E.contents err.new) (E.faults err.old) (E.faults err.new) (E.wants err.old) (E.wants err.new))
         (E.contents err.new ≡ E.contents err.old) result }
 {
-    match print_text(alloc, solution, out) {
+    match print_text(solution, out) {
         Ok(()) => verdict(solution.has_word),
         Err(WriteFault::Failed) => {
             tell(err, &[b"balm: cannot write\n"]);
@@ -96,16 +91,14 @@ fn answer<O: Sink, E: Sink>(alloc: Global, solution: &Solution, out: &mut O, err
 }
 
 /// Prints the text of the solution.
-fn print_text<O: Sink>(alloc: Global, solution: &Solution, out: &mut O) -> Result<(), WriteFault>
-    requires { IsPrintable (listing_of solution.now.auto) }
-    ensures meaning { MeansSolution solution.now }
+fn print_text<O: Sink>(solution: &Solution, out: &mut O) -> Result<(), WriteFault>
     ensures ok { OnOk result (O.contents out.new ≡ gained (O.contents out.old) (text_of solution.now)) }
     ensures refused { OnErr result (GainsFrontOf (O.contents out.old) (O.contents out.new) (text_of solution.now)) }
     ensures failed { result ≡ Err WriteFault.Failed → Rose (O.faults out.old) (O.faults out.new) }
     ensures memory { result ≡ Err WriteFault.Memory
         → (O.contents out.new ≡ O.contents out.old) ⊎ Rose (O.wants out.old) (O.wants out.new) }
 {
-    write_listed(alloc, &solution.auto, out)
+    write_all(out, &solution.text)
 }
 
 /// The status of a job that was done.

@@ -89,6 +89,10 @@ long_line file = line_with (codes "balm: " ∷ file ∷ codes ": Limit Bytes\n" 
 abbrev pub fault_line : List ℕ → ℕ → TextKind → List ℕ
 fault_line file line kind = line_with (codes "balm: " ∷ file ∷ codes ":" ∷ decimal line ∷ codes ": " ∷ kind_name kind ∷ codes "\n" ∷ [])
 
+-- the problem has too many bits
+abbrev pub bits_line : List ℕ
+bits_line = line_with (codes "balm: limit Bits\n" ∷ [])
+
 -- the names are refused
 abbrev pub names_line : NameRefusal → List ℕ
 names_line refusal = line_with (codes "balm: names: " ∷ refusal_kind refusal ∷ codes " " ∷ refused_name refusal ∷ codes "\n" ∷ [])

@@ -4,11 +4,11 @@ use Rattle.net_model.specs.declared.refusal.NameRefusal as declared_refusal
 use Rattle.net_model.specs.declared.refusal.NameRefusal.TheVariants as names
 use Rattle.net_model.specs.declared.text_fault.TextKind.{TextKind}
 use Rattle.net_model.specs.declared.text_fault.TextKind.TheVariants as kinds
-use Rattle.fault_lines.specs.Lines.{usage_line, unreadable_line, long_line, fault_line, names_line, memory_line}
+use Rattle.fault_lines.specs.Lines.{usage_line, unreadable_line, long_line, fault_line, names_line, bits_line, memory_line}
 use Rattle.fault_lines.specs.declared.status.Status.{Status}
 use Rattle.fault_lines.specs.declared.status.Status.TheVariants as status
 use Rattle.fault_lines.specs.declared.stop.Stop.{Stop}
-use Rattle.fault_lines.specs.declared.stop.Stop.TheVariants.{NoJob, Unreadable, TooLong, Faulty, BadNames, TooBig, Memory}
+use Rattle.fault_lines.specs.declared.stop.Stop.TheVariants.{NoJob, Unreadable, TooLong, Faulty, BadNames, TooManyBits, Memory}
 
 -- The status and the line of each stop.
 
@@ -42,7 +42,7 @@ stop_status (Unreadable name) = status.ReadFault
 stop_status (TooLong name) = status.Limit
 stop_status (Faulty name line kind) = fault_status kind
 stop_status (BadNames refusal) = names_status (told_refusal refusal)
-stop_status (TooBig name) = status.Refused
+stop_status TooManyBits = status.Limit
 stop_status Memory = status.Memory
 
 abbrev pub stop_line : Stop → List ℕ
@@ -51,5 +51,5 @@ stop_line (Unreadable name) = unreadable_line name.now
 stop_line (TooLong name) = long_line name.now
 stop_line (Faulty name line kind) = fault_line name.now line kind
 stop_line (BadNames refusal) = told_line (told_refusal refusal)
-stop_line (TooBig name) = fault_line name.now 1 kinds.Small
+stop_line TooManyBits = bits_line
 stop_line Memory = memory_line

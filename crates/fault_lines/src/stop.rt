@@ -21,7 +21,8 @@ pub enum Stop<'a> {
     /// The text has a fault of this kind at this line.
     Faulty(&'a str, u64, TextKind),
     BadNames(NameRefusal),
-    TooBig(&'a str),
+    /// The problem has more bits than the limit.
+    TooManyBits,
     Memory,
 }
 
@@ -143,9 +144,11 @@ impl<'a> Stop<'a> {
         match self {
             Stop::NoJob => Status::Usage,
             Stop::Unreadable(_) => Status::ReadFault,
-            Stop::TooLong(_) | Stop::Faulty(_, _, TextKind::Limit(_)) => Status::Limit,
+            Stop::TooLong(_) | Stop::Faulty(_, _, TextKind::Limit(_)) | Stop::TooManyBits => {
+                Status::Limit
+            }
             Stop::BadNames(NameRefusal::Memory) | Stop::Memory => Status::Memory,
-            Stop::Faulty(..) | Stop::BadNames(_) | Stop::TooBig(_) => Status::Refused,
+            Stop::Faulty(..) | Stop::BadNames(_) => Status::Refused,
         }
     }
 
@@ -160,7 +163,7 @@ impl<'a> Stop<'a> {
             Stop::TooLong(name) => tell(err, &[b"balm: ", name.as_bytes(), b": Limit Bytes\n"]),
             Stop::Faulty(name, line, kind) => tell_fault(err, name, *line, *kind),
             Stop::BadNames(refusal) => tell_names(err, refusal),
-            Stop::TooBig(name) => tell_fault(err, name, 1, TextKind::Small),
+            Stop::TooManyBits => tell(err, &[b"balm: limit Bits\n"]),
             Stop::Memory => tell(err, &[b"balm: out of memory\n"]),
         }
     }

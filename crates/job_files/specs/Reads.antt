@@ -8,7 +8,7 @@ use Rattle.net_model.specs.declared.text_fault.TextKind.{TextKind}
 use Rattle.blifmv_names.specs.Limits.{IsWithinLimits}
 use Rattle.blifmv_reader.specs.Told.{FindsNetFault}
 use Rattle.fault_lines.specs.declared.stop.Stop.{Stop}
-use Rattle.fault_lines.specs.declared.stop.Stop.TheVariants.{NoJob, Unreadable, TooLong, Faulty, BadNames, TooBig, Memory}
+use Rattle.fault_lines.specs.declared.stop.Stop.TheVariants.{NoJob, Unreadable, TooLong, Faulty, BadNames, TooManyBits, Memory}
 use Rattle.job_files.specs.declared.files.TheConstants.{MAX_BYTES}
 
 -- How a file of a job is read.
@@ -37,5 +37,5 @@ StopsAtFile name holds faults faults' (Faulty asked line kind) =
     (asked.now ≡ name)
     × ((files : Files) → holds ≡ Some files → IsWithin (bytes_under files name) × HasFault (bytes_under files name) line kind)
 StopsAtFile name holds faults faults' (BadNames refusal) = ⊥
-StopsAtFile name holds faults faults' (TooBig asked) = ⊥
+StopsAtFile name holds faults faults' TooManyBits = ⊥
 StopsAtFile name holds faults faults' Memory = Unit {0}

@@ -127,7 +127,7 @@ fn each_refusal_has_its_line(rt: HostRuntime) -> Result<(), Fail> {
 }
 
 // A network with so many signals behind one another, each a copy of the one before.
-fn chain(alloc: Global, signals: u8) -> Result<String, AllocError> {
+fn chain(alloc: Global, signals: u16) -> Result<String, AllocError> {
     let mut text = String::from_str(alloc, ".model wire\n.inputs i v\n.outputs u o\n")?;
     text.push_str(".table i -> n0\n- =i\n")?;
     for k in 1..signals {
@@ -140,16 +140,17 @@ fn chain(alloc: Global, signals: u8) -> Result<String, AllocError> {
     Ok(text)
 }
 
+// The chain has 2,000 bits and those of its letters.
 #[test]
-fn the_size_is_tested_last(rt: HostRuntime) -> Result<(), Fail> {
-    let chain = chain(rt.alloc(), 13)?;
-    for (ins, line) in [
-        ("u", "balm: copy.mv:1: Small\n"),
-        ("q", "balm: names: UnknownName q\n"),
+fn the_bits_are_tested_last(rt: HostRuntime) -> Result<(), Fail> {
+    let chain = chain(rt.alloc(), 2_000)?;
+    for (ins, status, line) in [
+        ("u", 4, "balm: limit Bits\n"),
+        ("q", 3, "balm: names: UnknownName q\n"),
     ] {
         let job = job("chain.mv", "copy.mv", ins, "v");
         let ended = ended_with(rt.alloc(), &job, "chain.mv", chain.as_bytes())?;
-        assert!(rt; ended.is(3, &[], line), "{ins}");
+        assert!(rt; ended.is(status, &[], line), "{ins}");
     }
     Ok(())
 }

@@ -9,7 +9,7 @@ use Rattle.net_model.specs.Tables.{values_at}
 use Rattle.net_model.specs.NetLanguages.{states_of, IsInitial, Steps}
 use Rattle.net_model.specs.SoundNets.{IsSound}
 
-value-below : (names : Scope) (valuation : Letter) (k : ℕ) → IsLetter names valuation → k < length names → get_or valuation k 0 < length (domain_at names k)
+pub value-below : (names : Scope) (valuation : Letter) (k : ℕ) → IsLetter names valuation → k < length names → get_or valuation k 0 < length (domain_at names k)
 value-below [] valuation k over known = absurd (omega (arith, known))
 value-below (v ∷ names) [] k over known = absurd over
 value-below (v ∷ names) (a ∷ valuation) zero over known = over.0

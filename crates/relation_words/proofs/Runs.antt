@@ -53,7 +53,7 @@ module _ (t : Table) (net : Net) (spots : FileSpots) (parts : List ℕ) (init ac
       (subst (λ a. AreApart a (get_or (spots.present ++ spots.next) (length spots.present + j) d)) (get_or-append-add spots.present spots.next i d) apart)
 
   -- no present value has a level of a next one
-  across : (k : ℕ) → is_in (all_levels spots.present) k ≡ true → is_in (all_levels spots.next) k ≡ false
+  pub across : (k : ℕ) → is_in (all_levels spots.present) k ≡ true → is_in (all_levels spots.next) k ≡ false
   across = each-level (λ k. is_in (all_levels spots.next) k ≡ false) spots.present (λ i d within k at.
       apart-out (get_or spots.present i d) spots.next
       (λ j e inside.

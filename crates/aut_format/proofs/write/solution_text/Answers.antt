@@ -1,8 +1,8 @@
-use Rattle.std.proofs.Common.{◌≡◌, ◌++◌, length, map, ap, ◌∙◌, arith}
+use Rattle.std.proofs.Common.{codes, ◌≡◌, ◌++◌, length, map, ap, ◌∙◌, arith}
 use Rattle.net_model.specs.Listings.{listing_of, scope_of, row_of}
 use Rattle.net_model.specs.Printed.{line_bytes, states_line}
 use Rattle.aut_format.proofs.Entries.{rows_have_entries}
-use Rattle.aut_format.proofs.Written.{solution_written}
+use Rattle.aut_format.proofs.Written.{auto_written}
 use Rattle.aut_format.proofs.write.solution_text.Goals as goal
 
 pub push_row_lines-requires : goal.push_row_lines-requires
@@ -19,4 +19,4 @@ returns c =
     let marks = rw c.deref-3.ensures.value at c.in_ok-push_mark_lines.ensures in
     let table = rw c.deref-4.ensures.value at c.in_ok-push_table_line.ensures in
     let rows = rw (c.deref-5.ensures.value, c.deref-6.ensures.value) at c.in_ok-push_row_lines.ensures in
-    solution_written (listing_of c.args.auto.now) _ _ _ _ _ _ _ _ _ _ c.in_ok-text.ensures.items inputs c.in_ok-extend_from_slice.ensures.items domains states c.in_ok-extend_from_slice-2.ensures.items marks table rows c.in_ok-extend_from_slice-3.ensures.items
+    auto_written (codes "solution") (listing_of c.args.auto.now) _ _ _ _ _ _ _ _ _ _ c.in_ok-text.ensures.items inputs c.in_ok-extend_from_slice.ensures.items domains states c.in_ok-extend_from_slice-2.ensures.items marks table rows c.in_ok-extend_from_slice-3.ensures.items

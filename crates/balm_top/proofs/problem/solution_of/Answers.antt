@@ -36,7 +36,7 @@ returns-clause-solved g c =
     let job_is : IsJob c.args.words.now job = search rules in
     let read : (files : Files) → shelf.holds c.args.shelf.now ≡ Some files → AreRead c.args.words.now files job f s =
     λ files held. record { job_is = job_is; f_read = c.in-Ok.ensures.ok files held; s_read = c.in-Ok-read_file.ensures.ok files (c.read_file.ensures.kept ∙ held) } in
-    solves_rightly c.args.words.now (shelf.holds c.args.shelf.now) job job_is f s read c.solve.result c.solve.ensures.printable c.solve.ensures.solved
+    solves_rightly c.args.words.now (shelf.holds c.args.shelf.now) job job_is f s read c.solve.result c.solve.ensures.solved
 
 pub returns-clause-stopped : goal.returns-clause-stopped
 returns-clause-stopped g c =

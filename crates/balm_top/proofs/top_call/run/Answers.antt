@@ -12,7 +12,7 @@ returns-in-Ok-clause-exact g c =
     answer_is_exact c.args.words.now (g.H.Shelf.holds c.args.shelf.now) (out.contents c.args.out.now) (out.contents c.answer.new.out) (out.faults c.args.out.now) (out.faults c.answer.new.out) (out.wants c.args.out.now) (out.wants c.answer.new.out)
     (IsTold (err.contents c.args.err.now) (err.contents c.answer.new.err) (err.faults c.args.err.now) (err.faults c.answer.new.err) (err.wants c.args.err.now) (err.wants c.answer.new.err))
     (err.contents c.answer.new.err ≡ err.contents c.args.err.now)
-    c.in-Ok.solution c.in-Ok.ensures.solved c.answer.ensures.meaning c.answer.result c.answer.ensures.answers
+    c.in-Ok.solution c.in-Ok.ensures.solved c.answer.result c.answer.ensures.answers
 
 pub returns-in-Ok-clause-no_job : goal.returns-in-Ok-clause-no_job
 returns-in-Ok-clause-no_job g c =
@@ -21,7 +21,7 @@ returns-in-Ok-clause-no_job g c =
     answer_has_job c.args.words.now (g.H.Shelf.holds c.args.shelf.now) (out.contents c.args.out.now) (out.contents c.answer.new.out) (out.faults c.args.out.now) (out.faults c.answer.new.out) (out.wants c.args.out.now) (out.wants c.answer.new.out)
     (IsTold (err.contents c.args.err.now) (err.contents c.answer.new.err) (err.faults c.args.err.now) (err.faults c.answer.new.err) (err.wants c.args.err.now) (err.wants c.answer.new.err))
     (err.contents c.answer.new.err ≡ err.contents c.args.err.now)
-    c.in-Ok.solution c.in-Ok.ensures.solved c.answer.ensures.meaning c.answer.result
+    c.in-Ok.solution c.in-Ok.ensures.solved c.answer.result
 
 pub returns-in-Ok-clause-write_fault : goal.returns-in-Ok-clause-write_fault
 returns-in-Ok-clause-write_fault g c =
@@ -30,7 +30,7 @@ returns-in-Ok-clause-write_fault g c =
     answer_write_fault c.args.words.now (g.H.Shelf.holds c.args.shelf.now) (out.contents c.args.out.now) (out.contents c.answer.new.out) (out.faults c.args.out.now) (out.faults c.answer.new.out) (out.wants c.args.out.now) (out.wants c.answer.new.out)
     (IsTold (err.contents c.args.err.now) (err.contents c.answer.new.err) (err.faults c.args.err.now) (err.faults c.answer.new.err) (err.wants c.args.err.now) (err.wants c.answer.new.err))
     (err.contents c.answer.new.err ≡ err.contents c.args.err.now)
-    c.in-Ok.solution c.in-Ok.ensures.solved c.answer.ensures.meaning c.answer.result c.answer.ensures.answers
+    c.in-Ok.solution c.in-Ok.ensures.solved c.answer.result c.answer.ensures.answers
 
 pub returns-in-Ok-clause-memory : goal.returns-in-Ok-clause-memory
 returns-in-Ok-clause-memory g c =
@@ -39,7 +39,7 @@ returns-in-Ok-clause-memory g c =
     answer_memory c.args.words.now (g.H.Shelf.holds c.args.shelf.now) (out.contents c.args.out.now) (out.contents c.answer.new.out) (out.faults c.args.out.now) (out.faults c.answer.new.out) (out.wants c.args.out.now) (out.wants c.answer.new.out)
     (IsTold (err.contents c.args.err.now) (err.contents c.answer.new.err) (err.faults c.args.err.now) (err.faults c.answer.new.err) (err.wants c.args.err.now) (err.wants c.answer.new.err))
     (err.contents c.answer.new.err ≡ err.contents c.args.err.now)
-    c.in-Ok.solution c.in-Ok.ensures.solved c.answer.ensures.meaning c.answer.result c.answer.ensures.answers
+    c.in-Ok.solution c.in-Ok.ensures.solved c.answer.result c.answer.ensures.answers
 
 pub returns-in-Ok-clause-out_front : goal.returns-in-Ok-clause-out_front
 returns-in-Ok-clause-out_front g c =
@@ -48,7 +48,7 @@ returns-in-Ok-clause-out_front g c =
     answer_front c.args.words.now (g.H.Shelf.holds c.args.shelf.now) (out.contents c.args.out.now) (out.contents c.answer.new.out) (out.faults c.args.out.now) (out.faults c.answer.new.out) (out.wants c.args.out.now) (out.wants c.answer.new.out)
     (IsTold (err.contents c.args.err.now) (err.contents c.answer.new.err) (err.faults c.args.err.now) (err.faults c.answer.new.err) (err.wants c.args.err.now) (err.wants c.answer.new.err))
     (err.contents c.answer.new.err ≡ err.contents c.args.err.now)
-    c.in-Ok.solution c.in-Ok.ensures.solved c.answer.ensures.meaning c.answer.result c.answer.ensures.answers
+    c.in-Ok.solution c.in-Ok.ensures.solved c.answer.result c.answer.ensures.answers
 
 pub returns-in-Err-clause-usage : goal.returns-in-Err-clause-usage
 returns-in-Err-clause-usage g c = λ is.

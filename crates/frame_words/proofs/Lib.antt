@@ -1,0 +1,4 @@
+pub mod Named
+pub mod Order
+pub mod Parted
+pub mod Spelt

@@ -1,7 +1,0 @@
-use Rattle.std.proofs.Common.{◌≡◌, ◌++◌, map, take}
-use Rattle.guard_rows.specs.Guards.{branch_of, with_bit_one}
-use Rattle.guard_rows.proofs.bits.joined.Given as goal
-
-abbrev pub invariant-loop-branch : goal.invariant-loop-branch
-invariant-loop-branch l =
-    map branch_of l.all.items ≡ map branch_of l.initial.all.items ++ map (with_bit_one l.half) (map branch_of (take l.branch-index l.branch-items))

@@ -1,5 +1,0 @@
-use Rattle.std.proofs.Common.{◌≡◌, map, take}
-use Rattle.guard_rows.proofs.tests.var.Given as goal
-
-abbrev pub invariant-loop-value : goal.invariant-loop-value
-invariant-loop-value l = map (λ name. name.items) l.names.items ≡ map (λ value. value.now) (take l.value-index l.values)

@@ -1,9 +1,0 @@
-use Rattle.std.proofs.Common.{◌≡◌, map, drop}
-use Rattle.std.specs.List.{list_all}
-use Rattle.net_model.specs.Nets.{table_of}
-use Rattle.net_model.specs.Tables.{table_holds}
-use Rattle.listed_nets.proofs.tables.all_hold.Given as goal
-
-abbrev pub invariant-loop-table : goal.invariant-loop-table
-invariant-loop-table l =
-    list_all (table_holds l.valuation) (map table_of (drop l.table-index l.tables)) ≡ list_all (table_holds l.valuation) (map table_of l.tables)

@@ -1,4 +1,0 @@
-pub mod Meanings
-pub mod Small
-pub mod Starts
-pub mod Valuations

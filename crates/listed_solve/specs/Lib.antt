@@ -1,3 +1,0 @@
-pub mod Automaton
-pub mod Explored
-pub mod Problem

@@ -1,0 +1,10 @@
+pub mod Products
+pub mod Codes
+pub mod Reading
+pub mod Files
+pub mod Orders
+pub mod Encoded
+pub mod Turned
+pub mod Composed
+pub mod Outside
+pub mod Solved
