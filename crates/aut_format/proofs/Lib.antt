@@ -1,4 +1,3 @@
-pub mod Entries
 pub mod Joins
 pub mod Written
 pub mod Meaning

@@ -4,7 +4,7 @@ use Rattle.std.specs.List.{AllByRecursion, AllPairs, Any, list_any}
 use Rattle.std.specs.List.Sorted.{IsStrictlyIncreasing}
 use Rattle.std.proofs.lemmas.Bool.{cases_lt, eqb-true, eq-eqb, and_parts, and_from, false≢true}
 use Rattle.std.proofs.lemmas.List.{length-map, get_or_past, get_or_default}
-use Rattle.automata_laws.proofs.Members.{IsOneOf, one_from_contains, contains_from_one, one_of_either, one_before, one_behind, holds_of_one, any_from_one, one_from_any, one_mapped, one_of_mapped, one_of_joined, joined_of_one}
+use Rattle.printed_nets.proofs.Members.{IsOneOf, one_from_contains, contains_from_one, one_of_either, one_before, one_behind, holds_of_one, any_from_one, one_from_any, one_mapped, one_of_mapped, one_of_joined, joined_of_one}
 use Rattle.name_table.specs.CodeBits.{bits_of, bits_in}
 use Rattle.net_model.specs.Words.{Variable, Scope, Letter, Word, IsLetter}
 use Rattle.net_model.specs.Automata.{RunsFrom}

@@ -8,9 +8,7 @@ mod fields;
 mod letters;
 mod lines;
 mod rows;
-mod write;
 
 pub use auto::{auto_text, write_auto};
 pub use automaton::as_auto;
 pub use counts::rows_of;
-pub use write::write_listed;

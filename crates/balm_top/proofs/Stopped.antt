@@ -87,7 +87,6 @@ fault_has_status (kinds.Limit which) = is_limit
 fault_has_status kinds.Hierarchy = is_refused
 fault_has_status kinds.BadName = is_refused
 fault_has_status kinds.BadDomain = is_refused
-fault_has_status kinds.Small = is_refused
 fault_has_status kinds.BadWidth = is_refused
 fault_has_status kinds.BadBit = is_refused
 fault_has_status kinds.UnknownReset = is_refused

@@ -41,7 +41,6 @@ kind_name (kinds.Limit which) = limit_name which
 kind_name kinds.Hierarchy = codes "Hierarchy"
 kind_name kinds.BadName = codes "BadName"
 kind_name kinds.BadDomain = codes "BadDomain"
-kind_name kinds.Small = codes "Small"
 kind_name kinds.BadWidth = codes "BadWidth"
 kind_name kinds.BadBit = codes "BadBit"
 kind_name kinds.UnknownReset = codes "UnknownReset"

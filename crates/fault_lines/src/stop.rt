@@ -122,7 +122,6 @@ fn kind_name(kind: TextKind) -> &'static [u8]
         TextKind::Hierarchy => b"Hierarchy",
         TextKind::BadName => b"BadName",
         TextKind::BadDomain => b"BadDomain",
-        TextKind::Small => b"Small",
         TextKind::BadWidth => b"BadWidth",
         TextKind::BadBit => b"BadBit",
         TextKind::UnknownReset => b"UnknownReset",

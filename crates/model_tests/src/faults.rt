@@ -169,13 +169,6 @@ const TEXT_FAULTS: &[(TextFault, &str)] = &[
     ),
     (
         TextFault::At {
-            line: 15,
-            kind: TextKind::Small,
-        },
-        "line 15: Small",
-    ),
-    (
-        TextFault::At {
             line: 16,
             kind: TextKind::BadWidth,
         },

@@ -4,7 +4,10 @@ pub mod Conditions
 pub mod Equation
 pub mod Faults
 pub mod Forms
+pub mod KissForms
+pub mod KissTexts
 pub mod Listings
+pub mod Machines
 pub mod NetLanguages
 pub mod NetTexts
 pub mod Nets

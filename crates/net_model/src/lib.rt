@@ -7,9 +7,10 @@
 mod automaton;
 mod class;
 mod directive;
+mod kiss_directive;
 mod letter;
 mod letter_signals;
-mod listed;
+mod machine;
 mod name_list;
 mod net;
 mod refusal;
@@ -17,8 +18,9 @@ mod text_fault;
 
 pub use class::{Class, Mode};
 pub use directive::Directive;
+pub use kiss_directive::KissDirective;
 pub use letter::{Letter, ValueSet, Word};
-pub use listed::{Listed, ListedRow, ListedVar};
+pub use machine::{Bit, KissRow, Machine};
 pub use name_list::NameList;
 pub use net::{Entry, File, Latch, Net, Row, Table};
 pub use refusal::{NameRefusal, Slot};

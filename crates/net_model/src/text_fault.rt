@@ -62,9 +62,6 @@ pub enum TextKind {
     BadName,
     #[error("BadDomain")]
     BadDomain,
-    /// The listing of letters and states would be too large.
-    #[error("Small")]
-    Small,
     #[error("BadWidth")]
     BadWidth,
     #[error("BadBit")]

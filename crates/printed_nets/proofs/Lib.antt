@@ -2,11 +2,13 @@ pub mod Allowed
 pub mod Conditioned
 pub mod Lexed
 pub mod Meant
+pub mod Members
 pub mod Named
 pub mod NetSaid
 pub mod Rowed
 pub mod Runs
 pub mod Said
 pub mod SaidLines
+pub mod Simulations
 pub mod Stood
 pub mod Worded

@@ -15,7 +15,7 @@ use Rattle.net_model.specs.Forms.{Name, Form, EndLine}
 use Rattle.net_model.specs.NetTexts.{mentions, distinct, names_in, domain_given, domain_in, variables_in, has_domains}
 use Rattle.net_model.specs.Written.{IsTextVariable}
 use Rattle.net_model.specs.Printed.{state_name, IsPrintedVariable, IsPrintable}
-use Rattle.automata_laws.proofs.Members.{IsOneOf}
+use Rattle.printed_nets.proofs.Members.{IsOneOf}
 use Rattle.printed_nets.specs.PrintedNets.{acc_variable, state_names, state_variable, printed_names, domain_form, mark_forms, row_form, step_forms, table_forms, state_forms, printed_forms}
 
 -- The names of a printed text, and their domains.

@@ -15,8 +15,8 @@ use Rattle.net_model.specs.Tables.{values_at, table_holds}
 use Rattle.net_model.specs.Conditions.{latch_outputs, Varies, varies_as_latch, varies_by_table, IsAutomaton}
 use Rattle.net_model.specs.NetLanguages.{is_automaton, letter_signals, letters_of, latch_inputs, HoldsIfConstant, IsInitial, Steps, AcceptsBy, IsAccepting, NetWords}
 use Rattle.net_model.specs.Printed.{IsPrintedVariable, IsPrintedRow, IsPrintable}
-use Rattle.automata_laws.proofs.Members.{IsOneOf, one_from_any, one_from_contains, holds_of_one}
-use Rattle.automata_laws.proofs.Simulations.{IsFollowed, word_is_followed}
+use Rattle.printed_nets.proofs.Members.{IsOneOf, one_from_any, one_from_contains, holds_of_one}
+use Rattle.printed_nets.proofs.Simulations.{IsFollowed, word_is_followed}
 use Rattle.printed_nets.specs.PrintedNets.{acc_variable, state_variable, printed_names, letter_places, acc_place, present_place, next_place, mark_value, acc_table, step_table, reset_table, printed_net}
 use Rattle.printed_nets.proofs.NetSaid.{variable_here, own_variables}
 use Rattle.printed_nets.proofs.Rowed.{states_length}

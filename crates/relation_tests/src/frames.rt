@@ -7,9 +7,9 @@ ghost use Rattle.mv_encoding.specs.Spots.{IsSpot, AreSpots, AreLaid};
 ghost use Rattle.net_model.specs.declared.class.Mode.TheVariants.{Sync};
 ghost use Rattle.net_frame.specs.Frames.{FitsProblem};
 
-use crate::problems::{Laid, drop_frame, drop_problem, drop_space, laid_problem, problem_of};
 use crate::shown::has_paths;
 use bdd_ops::{LevelMap, LevelSet};
+use laid_problems::{Laid, drop_frame, drop_problem, drop_space, laid_problem, problem_of};
 use mv_encoding::{CodeFault, Coding, all_values, apart_codes_are_of_values, same_number};
 use net_frame::{Frame, letters_are_laid};
 use net_model::{Mode, Slot};

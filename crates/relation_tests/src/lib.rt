@@ -4,8 +4,6 @@
 #[cfg(test)]
 mod frames;
 #[cfg(test)]
-mod problems;
-#[cfg(test)]
 mod shown;
 #[cfg(test)]
 mod sizes;

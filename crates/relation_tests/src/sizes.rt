@@ -5,10 +5,10 @@ ghost use Rattle.net_model.specs.declared.class.Mode.TheVariants.{Sync};
 ghost use Rattle.net_frame.specs.Frames.{FitsProblem};
 ghost use Rattle.part_relation.specs.Plans.{AreValid};
 
-use crate::problems::{drop_frame, drop_problem, drop_space, laid_problem, problem_of};
 use crate::shown::are_levels;
 use crate::steps::steps_of_f;
 use bdd_ops::LevelSet;
+use laid_problems::{drop_frame, drop_problem, drop_space, laid_problem, problem_of};
 use mv_encoding::CodeFault;
 use net_model::Slot;
 use net_problem::Problem;

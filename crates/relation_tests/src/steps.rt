@@ -7,9 +7,9 @@ ghost use Rattle.net_model.specs.declared.class.Mode.TheVariants.{Sync};
 ghost use Rattle.net_frame.specs.Frames.{FitsProblem};
 ghost use Rattle.part_relation.specs.Plans.{AreValid};
 
-use crate::problems::{drop_frame, drop_problem, drop_space, laid_problem};
 use crate::shown::{are_levels, has_paths};
 use bdd_ops::LevelSet;
+use laid_problems::{drop_frame, drop_problem, drop_space, laid_problem};
 use net_model::Slot;
 use net_problem::Problem;
 use net_relation::{Frame, SolveFault, accepting, initial, relation_of};

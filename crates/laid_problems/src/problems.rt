@@ -23,7 +23,7 @@ fn list_of(alloc: Global, names: &str) -> Result<NameList, AllocError> {
 }
 
 /// The network of a text.
-pub(crate) fn file_of(alloc: Global, text: &[u8]) -> Result<File, TextFault>
+pub fn file_of(alloc: Global, text: &[u8]) -> Result<File, TextFault>
     ensures { IfOk result (λ file. IsSoundFile (problems.file_of file)) }
 {
     match read_net(alloc, text) {
@@ -48,7 +48,7 @@ fn problem_with(
 }
 
 /// The synchronous problem of two texts, for an X with these inputs and outputs.
-pub(crate) fn problem_of(
+pub fn problem_of(
     alloc: Global,
     texts: (&[u8], &[u8]),
     names: (&str, &str),
@@ -64,7 +64,7 @@ pub(crate) fn problem_of(
 }
 
 /// A problem, a space with its levels, and where they stand.
-pub(crate) type Laid = (Problem, Space, Frame);
+pub type Laid = (Problem, Space, Frame);
 
 /// A space with the levels of a problem.
 fn space_of(alloc: Global, problem: &Problem, limit: u32) -> Result<(Space, Frame), Fail>
@@ -76,7 +76,7 @@ fn space_of(alloc: Global, problem: &Problem, limit: u32) -> Result<(Space, Fram
 }
 
 /// The problem of two texts with a space of its levels, which may hold so many nodes.
-pub(crate) fn laid_problem(
+pub fn laid_problem(
     alloc: Global,
     texts: (&[u8], &[u8]),
     names: (&str, &str),
@@ -91,10 +91,10 @@ pub(crate) fn laid_problem(
 }
 
 /// Drops a problem. A caller that drops one itself has all its parts in its own proof.
-pub(crate) fn drop_problem(_problem: Problem) {}
+pub fn drop_problem(_problem: Problem) {}
 
 /// Drops the codes of a problem.
-pub(crate) fn drop_frame(_frame: Frame) {}
+pub fn drop_frame(_frame: Frame) {}
 
 /// Drops a space.
-pub(crate) fn drop_space(_space: Space) {}
+pub fn drop_space(_space: Space) {}

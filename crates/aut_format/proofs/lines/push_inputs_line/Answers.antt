@@ -1,6 +1,0 @@
-use Rattle.std.proofs.Common.{rules, append_assoc}
-use Rattle.aut_format.proofs.Joins.{join-cons}
-use Rattle.aut_format.proofs.lines.push_inputs_line.Goals as goal
-
-pub returns : goal.returns
-returns c = rw join-cons (search (rules, append_assoc))
