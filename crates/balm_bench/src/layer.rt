@@ -44,10 +44,16 @@ pub enum Layer {
 
     /// The relation of one table of many rows.
     Drawn,
+
+    /// The subset construction of many latches in a row.
+    Subsets,
+
+    /// The subset construction of a relation whose states have many targets each.
+    Targets,
 }
 
 impl Layer {
-    const ALL: [Layer; 12] = [
+    const ALL: [Layer; 14] = [
         Layer::Lines,
         Layer::Names,
         Layer::Nodes,
@@ -60,6 +66,8 @@ impl Layer {
         Layer::Valued,
         Layer::Chain,
         Layer::Drawn,
+        Layer::Subsets,
+        Layer::Targets,
     ];
 
     /// The word that names it.
@@ -79,6 +87,8 @@ impl Layer {
             Layer::Valued => "valued",
             Layer::Chain => "chain",
             Layer::Drawn => "drawn",
+            Layer::Subsets => "subsets",
+            Layer::Targets => "targets",
         }
     }
 

@@ -7,6 +7,7 @@ mod layer;
 ghost use Rattle.std.specs.Prelude.{◌<◌, vec_len, IfOk};
 
 use anyhow::{Context, Result, bail};
+use bench_automata::{count_subsets, count_targets};
 use bench_diagrams::{count_blocked, count_chain, count_drawn, count_interleaved, count_nodes};
 use bench_texts::{
     count_collisions, count_counts, count_domains, count_lines, count_names, count_rows,
@@ -19,7 +20,7 @@ use std::rt::Env;
 
 /// What is told of words that name no jobs.
 const USAGE: &str =
-    "usage: balm_bench LAYER SIZE .. (a layer is lines, names, nodes, interleaved, blocked, rows, domains, collisions, counts, valued, chain or drawn)";
+    "usage: balm_bench LAYER SIZE .. (a layer is lines, names, nodes, interleaved, blocked, rows, domains, collisions, counts, valued, chain, drawn, subsets or targets)";
 
 fn main(rt: HostRuntime) -> Result<()> {
     let words = words(&rt, rt.alloc())?;
@@ -79,6 +80,8 @@ fn run(rt: &impl Print, alloc: Global, job: &Job) -> Result<()> {
         Layer::Valued => println!(rt; "valued {size}: {}", count_valued(alloc, size)?)?,
         Layer::Chain => println!(rt; "chain {size}: {}", count_chain(alloc, size)?)?,
         Layer::Drawn => println!(rt; "drawn {size}: {}", count_drawn(alloc, size)?)?,
+        Layer::Subsets => println!(rt; "subsets {size}: {}", count_subsets(alloc, size)?)?,
+        Layer::Targets => println!(rt; "targets {size}: {}", count_targets(alloc, size)?)?,
     }
     Ok(())
 }

@@ -1,6 +1,6 @@
 use Rattle.std.proofs.Common.{◌≡◌, arith}
 use Rattle.balm_bench.specs.declared.layer.Layer.{Layer}
-use Rattle.balm_bench.specs.declared.layer.Layer.TheVariants.{Lines, Names, Nodes, Interleaved, Blocked, Rows, Domains, Collisions, Counts, Valued, Chain, Drawn}
+use Rattle.balm_bench.specs.declared.layer.Layer.TheVariants.{Lines, Names, Nodes, Interleaved, Blocked, Rows, Domains, Collisions, Counts, Valued, Chain, Drawn, Subsets, Targets}
 use Rattle.balm_bench.specs.LayerNames.{name_of}
 use Rattle.balm_bench.proofs.layer.Layer.named.Goals as goal
 
@@ -20,3 +20,5 @@ returns-clause-unknown c = unknown
     unknown Valued = c.loop-layer.invariant 9 Lines (omega (arith, c.loop-layer.auto.layer-index-end))
     unknown Chain = c.loop-layer.invariant 10 Lines (omega (arith, c.loop-layer.auto.layer-index-end))
     unknown Drawn = c.loop-layer.invariant 11 Lines (omega (arith, c.loop-layer.auto.layer-index-end))
+    unknown Subsets = c.loop-layer.invariant 12 Lines (omega (arith, c.loop-layer.auto.layer-index-end))
+    unknown Targets = c.loop-layer.invariant 13 Lines (omega (arith, c.loop-layer.auto.layer-index-end))
