@@ -1,8 +1,8 @@
 -- The steps that the operations share.
-use Rattle.std.specs.Prelude.{◌≡◌, ◌==◌, ◌&&◌, ◌<◌, ◌≤◌, ℕ, Bool, true, if◌then◌else◌, min, List, Some}
-use Rattle.indexmap.specs.IndexMap.{get}
+use Rattle.std.specs.Prelude.{◌≡◌, ◌<◌, ◌≤◌, ℕ, Bool, true, if◌then◌else◌, min, List, slice_index_or}
 use Rattle.node_table.specs.Table.{Bits, Table, value_at, top_of, IsValid}
 use Rattle.bdd_ops.specs.declared.choice.Choice.{Choice}
+use Rattle.bdd_ops.specs.declared.memo.Entry.{Entry}
 use Rattle.bdd_ops.specs.declared.memo.Memo.{Memo}
 use Rattle.bdd_ops.specs.Levels.{target_or, renamed}
 use Rattle.bdd_ops.specs.Meaning.{HasSome}
@@ -49,13 +49,19 @@ pub record AreCofactors (t : Table) (level : ℕ) (bit : Bool) (c d : Choice) : 
   pub below : level < low_of t d
   pub value : (bits : Bits) → bits level ≡ bit → ite_value t c bits ≡ ite_value t d bits
 
--- the test by which a memo tells its keys apart
-abbrev pub is_choice : Choice → Choice → Bool
-is_choice c d = (c.f == d.f) && ((c.g == d.g) && (c.h == d.h))
+-- the three diagrams of a slot without an answer
+abbrev pub no_choice : Choice
+no_choice = record { f = 0; g = 0; h = 0 }
+
+-- some slot has this entry, which isn't that of a slot without an answer
+pub record IsHeld (slots : List Entry) (e : Entry) : Type 0 where
+  pub slot : ℕ
+  pub is : slice_index_or slots slot (record { at = no_choice; answer = 0 }) ≡ e
+  pub some : e.at ≡ no_choice → ⊥
 
 -- the memo has this answer
 abbrev pub IsNoted : Memo → Choice → ℕ → Type 0
-IsNoted m c r = get is_choice m.answers c ≡ Some r
+IsNoted m c r = IsHeld m.slots.items (record { at = c; answer = r })
 
 -- each answer that the memo has is right, where `IsAnswer t c r` says that r is the answer at c
 pub record IsRight (IsAnswer : Table → Choice → ℕ → Type 0) (t : Table) (m : Memo) : Type 0 where

@@ -10,7 +10,7 @@ use crate::memo::Memo;
 use crate::steps::{cofactors, known, low};
 use node_table::{MkFault, Ref, Space};
 
-/// The diagram that is 1 where both `f` and `g` are. Takes at most one step for each pair of their nodes.
+/// The diagram that is 1 where both `f` and `g` are. Takes about one step for each pair of their nodes.
 pub fn and(space: &mut Space, f: Ref, g: Ref) -> Result<Ref, MkFault>
     requires f { IsValid space.old f }
     requires g { IsValid space.old g }
@@ -24,7 +24,7 @@ pub fn and(space: &mut Space, f: Ref, g: Ref) -> Result<Ref, MkFault>
     ite(space, f, g, zero)
 }
 
-/// The diagram that is 1 where `f` or `g` is. Takes at most one step for each pair of their nodes.
+/// The diagram that is 1 where `f` or `g` is. Takes about one step for each pair of their nodes.
 pub fn or(space: &mut Space, f: Ref, g: Ref) -> Result<Ref, MkFault>
     requires f { IsValid space.old f }
     requires g { IsValid space.old g }
@@ -38,7 +38,7 @@ pub fn or(space: &mut Space, f: Ref, g: Ref) -> Result<Ref, MkFault>
     ite(space, f, one, g)
 }
 
-/// The diagram that is 1 where `f` is 0. Takes at most one step for each node of `f`.
+/// The diagram that is 1 where `f` is 0. Takes about one step for each node of `f`.
 pub fn not(space: &mut Space, f: Ref) -> Result<Ref, MkFault>
     requires { IsValid space.old f }
     ensures ok { IfOk result (λ r. StandsFor space.new r (λ bits. not (value_at space.old f bits))) }
@@ -52,7 +52,7 @@ pub fn not(space: &mut Space, f: Ref) -> Result<Ref, MkFault>
     ite(space, f, zero, one)
 }
 
-/// The diagram that is `g` where `f` is 1, and `h` where it is 0 (Brace, Rudell, Bryant 1990). Takes at most one step for
+/// The diagram that is `g` where `f` is 1, and `h` where it is 0 (Brace, Rudell, Bryant 1990). Takes about one step for
 /// each three of their nodes.
 pub fn ite(space: &mut Space, f: Ref, g: Ref, h: Ref) -> Result<Ref, MkFault>
     requires f { IsValid space.old f }

@@ -13,7 +13,7 @@ use crate::memo::Memo;
 use crate::steps::{cofactors, known, low};
 use node_table::{MkFault, Ref, Space};
 
-/// The diagram that is 1 where some bits at these levels make `f` 1: existential quantification. Takes at most one step
+/// The diagram that is 1 where some bits at these levels make `f` 1: existential quantification. Takes about one step
 /// for each node of `f`, and at each hidden level the disjunction of two answers.
 pub fn exists(space: &mut Space, f: Ref, levels: &LevelSet) -> Result<Ref, MkFault>
     requires { IsValid space.old f }
@@ -27,7 +27,7 @@ pub fn exists(space: &mut Space, f: Ref, levels: &LevelSet) -> Result<Ref, MkFau
     and_exists(space, f, one, levels)
 }
 
-/// The diagram that is 1 where some bits at these levels make both `f` and `g` 1: the relational product. Takes at most
+/// The diagram that is 1 where some bits at these levels make both `f` and `g` 1: the relational product. Takes about
 /// one step for each pair of their nodes, and at each hidden level the disjunction of two answers. `Full` can come of a
 /// disjunction on the way, whose nodes the answer would not have.
 pub fn and_exists(space: &mut Space, f: Ref, g: Ref, levels: &LevelSet) -> Result<Ref, MkFault>

@@ -12,7 +12,7 @@ use crate::memo::Memo;
 use node_table::{MkFault, Ref, Space};
 
 /// The diagram with the value of `f` at the bits that are read through the map: it asks the bit at the target of a
-/// level where `f` asks the one at the level. Takes at most one step for each node of `f`.
+/// level where `f` asks the one at the level. Takes about one step for each node of `f`.
 pub fn rename(space: &mut Space, f: Ref, map: &LevelMap) -> Result<Ref, MkFault>
     requires f { IsValid space.old f }
     requires rising { IsRisingMap map.now }

@@ -8,3 +8,4 @@ pub mod Cutting
 pub mod Making
 pub mod Exploring
 pub mod Grounding
+pub mod Conjoined

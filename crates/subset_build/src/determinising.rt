@@ -13,6 +13,7 @@ ghost use Rattle.subset_build.specs.Preparing.{IsGround, IsGroundOf};
 
 use crate::found::Found;
 use crate::images::{meets, step};
+use crate::joining::join_small;
 use crate::moves::moves_of;
 use crate::prepared::Prepared;
 use bdd_ops::{LevelMap, LevelSet};
@@ -26,9 +27,39 @@ use part_relation::Parts;
 /// set of states, the empty one too, in the order in which they are found, breadth first, and the moves of a state by the
 /// least of their letters.
 ///
-/// One plan is made for all images. For each set the parts are conjoined once, and the image is gone through once. A node
-/// limit is told with the number of sets found so far.
+/// Small parts are joined first, and one plan is made for all images. For each set the parts are conjoined once, and the image
+/// is gone through once. A node limit is told with the number of sets found so far.
 pub fn determinise(
+    space: &mut Space,
+    parts: &Parts,
+    init: Ref,
+    acc: Ref,
+    keep: &LevelSet,
+    state: &LevelMap,
+    valid: Ref,
+) -> Result<Det, SolveFault>
+    requires order { AreInOrder space.old.levels keep.now state.now }
+    requires parts { AreValid space.old parts.now }
+    requires init { Reads space.old (present_of state.now) init }
+    requires acc { Reads space.old (present_of state.now) acc }
+    requires valid { Reads space.old keep.now valid }
+    ensures words { IfOk result (λ det. (word : BitWord) → AreLetters (value_at space.old valid) word → (has_word space.new det word ≡ true) ↔ HasRun (relation_of space.old parts.now init acc keep.now state.now) word) }
+    ensures rule { IfOk result (MeetsRule space.new (value_at space.old valid)) }
+    ensures complete { IfOk result (IsComplete space.new (value_at space.old valid)) }
+    ensures reads { IfOk result (ReadsAlone space.new keep.now) }
+    ensures sets { IfOk result (λ det. AreSoMany space.new (relation_of space.old parts.now init acc keep.now state.now) (value_at space.old valid) (length det)) }
+    ensures grows { Grows space.old space.new }
+    ensures levels { space.new.levels ≡ space.old.levels }
+    ensures limit { IfErr result (IsLimit space.new (AreSoMany space.new (relation_of space.old parts.now init acc keep.now state.now) (value_at space.old valid))) }
+{
+    match join_small(space, parts) {
+        Ok(joined) => determinise_joined(space, &joined, init, acc, keep, state, valid),
+        Err(fault) => Err(SolveFault::stopped(space, fault, 1)),
+    }
+}
+
+// The same, by a plan for these very parts.
+fn determinise_joined(
     space: &mut Space,
     parts: &Parts,
     init: Ref,

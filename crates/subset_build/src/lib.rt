@@ -4,6 +4,7 @@
 mod determinising;
 mod found;
 mod images;
+mod joining;
 mod moves;
 mod prepared;
 
