@@ -1,0 +1,14 @@
+pub mod Begins
+pub mod Names
+pub mod Columned
+pub mod Lined
+pub mod Kept
+pub mod Agreeing
+pub mod Passing
+pub mod Standing
+pub mod Rowed
+pub mod ColumnNames
+pub mod Widths
+pub mod Soundness
+pub mod Reading
+pub mod Lawful
