@@ -12,7 +12,7 @@ use clap::error::ErrorKind;
 use std::alloc::{AllocError, Global};
 
 /// What the words give.
-#[derive(Debug, Drop)]
+#[derive(Drop)]
 pub struct Given<'a> {
     /// The first word that is no option.
     pub command: &'a str,
