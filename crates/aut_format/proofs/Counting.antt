@@ -1,9 +1,10 @@
 -- How many rows there are.
-use Rattle.std.proofs.Common.{◌≡◌, ◌+◌, ◌-◌, ◌^◌, ◌<◌, ◌≤◌, ◌⊎◌, ℕ, zero, suc, true, false, Some, List, [], ◌∷◌, ◌++◌, length, drop, min, refl, sym, ap, ◌∙◌, inl, inr, arith, length-append}
+use Rattle.std.proofs.Common.{◌≡◌, ◌+◌, ◌-◌, ◌^◌, ◌<◌, ◌≤◌, ℕ, zero, suc, Bool, true, false, nat_eq, if◌then◌else◌, Some, List, [], ◌∷◌, ◌++◌, length, drop, min, refl, sym, ap, ◌∙◌, arith, length-append}
+use Rattle.std.proofs.lemmas.Bool.{eqb-true}
 use Rattle.std.proofs.lemmas.List.{length-map}
 use Rattle.node_table.specs.Table.{Table, IsValid, lo_of, hi_of}
 use Rattle.bdd_walk.specs.Paths.{Path, paths_of, behind}
-use Rattle.bdd_walk.proofs.Nodes.{has-ends}
+use Rattle.bdd_walk.proofs.Nodes.{has-ends, same-some}
 use Rattle.bdd_walk.proofs.Ways.{paths-node, paths-zero, paths-one}
 use Rattle.mv_encoding.specs.Layouts.{Layout}
 use Rattle.det_core.specs.declared.det.Move.{Move}
@@ -11,7 +12,7 @@ use Rattle.det_core.specs.Automata.{State, state_at}
 use Rattle.aut_format.specs.declared.counts.Counts.{Counts}
 use Rattle.aut_format.specs.Rows.{row_along, rows_of_move, rows_of_moves, rows_from}
 use Rattle.aut_format.specs.Counts.{at_most_64_bits, paths_of_moves}
-use Rattle.aut_format.specs.Memos.{IsCounted, AreRight}
+use Rattle.aut_format.specs.Memos.{count_of, AreRight}
 
 -- sums that stay at the greatest value
 pub sum-stays : (most a b : ℕ) → min (min a most + min b most) most ≡ min (a + b) most
@@ -45,11 +46,15 @@ node-count t r lo hi low high valid node is_lo is_hi at_lo at_hi =
 
 -- one count more is held
 pub right-noted : (t : Table) (old new : Counts) (r count : ℕ) → AreRight t old → count ≡ at_most_64_bits (length (paths_of t.nodes r))
-    → ((s n : ℕ) → IsCounted new s n → ((s ≡ r) × (n ≡ count)) ⊎ IsCounted old s n) → AreRight t new
-right-noted t old new r count right is noted s n held = elim (noted s n held) [
-  | inl (at, same) ↦ same ∙ is ∙ ap (λ k. at_most_64_bits (length (paths_of t.nodes k))) (sym at)
-  | inr before ↦ right s n before
-]
+    → ((s : ℕ) → count_of new s ≡ (if nat_eq r s then Some count else count_of old s)) → AreRight t new
+right-noted t old new r count right is noted s n held = by (nat_eq r s) refl
+  where
+    by : (b : Bool) → nat_eq r s ≡ b → n ≡ at_most_64_bits (length (paths_of t.nodes s))
+    by true same =
+        same-some n count (sym held ∙ noted s ∙ ap (λ b. if b then Some count else count_of old s) same)
+        ∙ is
+        ∙ ap (λ k. at_most_64_bits (length (paths_of t.nodes k))) (eqb-true r s same)
+    by false other = right s n (sym (noted s ∙ ap (λ b. if b then Some count else count_of old s) other) ∙ held)
 
 -- one move more
 pub move-count : (t : Table) (moves : List Move) (k whole count more : ℕ) (m : Move) → drop k moves ≡ m ∷ drop (k + 1) moves

@@ -2,7 +2,8 @@
 use Rattle.std.proofs.Common.{◌↔◌, ◌<◌, ◌^◌, ℕ, IsTrue, List, length, get_or}
 use Rattle.net_model.specs.Words.{Letter, Word}
 use Rattle.net_model.specs.Listings.{steps}
-use Rattle.net_model.specs.NetLanguages.{Means, StandsForAutomaton}
+use Rattle.net_model.specs.NetLanguages.{StandsForAutomaton}
+use Rattle.net_model.specs.Files.{Means}
 use Rattle.net_model.specs.Written.{IsTextName}
 use Rattle.net_model.specs.Printed.{printed_text}
 use Rattle.printed_nets.proofs.Meant.{printed_automaton, printed_means}

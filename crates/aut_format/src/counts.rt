@@ -1,6 +1,6 @@
 //! How many rows an automaton has, without printing them.
 
-ghost use Rattle.std.specs.Prelude.{◌≡◌, ◌-◌, ◌^◌, ◌<◌, ◌⊎◌, ℕ, Some, length, min, nat_eq, All, IfOk, IfSome, OnOk};
+ghost use Rattle.std.specs.Prelude.{◌≡◌, ◌-◌, ◌^◌, ◌<◌, ℕ, Some, length, min, nat_eq, if◌then◌else◌, All, IfOk, OnOk};
 ghost use Rattle.indexmap.specs.IndexMap.{get};
 ghost use Rattle.node_table.specs.Table.{IsValid};
 ghost use Rattle.bdd_walk.specs.Paths.{paths_of};
@@ -43,7 +43,7 @@ struct Counts {
 impl Counts {
     ghost use Rattle.std.specs.Prelude.{nat_eq};
     ghost use Rattle.indexmap.specs.IndexMap.{get};
-    ghost use Rattle.aut_format.specs.Memos.{IsCounted, AreRight};
+    ghost use Rattle.aut_format.specs.Memos.{count_of, AreRight};
 
     fn new(space: &Space) -> Counts
         ensures { AreRight space.now result }
@@ -89,7 +89,7 @@ impl Counts {
     }
 
     fn recall(&self, r: Ref) -> Option<u64>
-        ensures { IfSome result (λ count. IsCounted self.now r count) }
+        ensures { result ≡ count_of self.now r }
     {
         match self.paths.get(&r) {
             Some(count) => Some(*count),
@@ -98,7 +98,7 @@ impl Counts {
     }
 
     fn note(&mut self, r: Ref, count: u64) -> Result<(), AllocError>
-        ensures { OnOk result ((s n : ℕ) → IsCounted self.new s n → ((s ≡ r) × (n ≡ count)) ⊎ IsCounted self.old s n) }
+        ensures { OnOk result ((s : ℕ) → count_of self.new s ≡ (if nat_eq r s then Some count else count_of self.old s)) }
     {
         self.paths.insert(r, count)?;
         Ok(())

@@ -2,7 +2,7 @@ use Rattle.std.proofs.Common.{◌≡◌, ◌↔◌, Bool, true, false, ℕ, List
 use Rattle.io_core.specs.Files.{Files}
 use Rattle.io_core.specs.Gained.{gained}
 use Rattle.net_model.specs.Words.{Word}
-use Rattle.net_model.specs.NetLanguages.{letters_of}
+use Rattle.net_model.specs.Files.{file_letters}
 use Rattle.net_model.proofs.Largest.{safe_words_are_largest}
 use Rattle.solution_text.specs.declared.solution.Solution.{Solution}
 use Rattle.solution_text.specs.Solutions.{MeansText}
@@ -40,7 +40,7 @@ module _ (words : List (List ℕ)) (files : Files) (solution : Solution) (solves
     problem = solves.problem;
     automaton = solves.solved.automaton;
     exact = solves.solved.exact;
-    solution = safe_words_are_largest (topology_of solves.job (letters_of solves.f) (letters_of solves.s)) _ _ _ solves.solved.exact;
+    solution = safe_words_are_largest (topology_of solves.job (file_letters solves.f) (file_letters solves.s)) _ _ _ solves.solved.exact;
     verdict = verdict_is solution.has_word solves.solved.verdict;
   }
 

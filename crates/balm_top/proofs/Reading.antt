@@ -1,6 +1,6 @@
 use Rattle.std.proofs.Common.{◌≡◌, ℕ, List, Option, Some, Result, Ok, Err, IfOk, IfErr}
 use Rattle.io_core.specs.Files.{Files}
-use Rattle.net_model.specs.Nets.{Net}
+use Rattle.net_model.specs.Files.{File}
 use Rattle.solution_text.specs.declared.solution.Solution.{Solution}
 use Rattle.job_words.specs.Jobs.{Job, IsJob}
 use Rattle.fault_lines.specs.declared.stop.Stop.{Stop}
@@ -9,7 +9,7 @@ use Rattle.balm_top.specs.Stops.{StopsRightly, StopsWork, IsWorkable, IsSolved, 
 use Rattle.balm_top.proofs.Stopped.{stops_work}
 
 -- What the work on two files that are read says of the words and the files.
-module _ (words : List (List ℕ)) (holds : Option Files) (job : Job) (job_is : IsJob words job) (f s : Net) (read : (files : Files) → holds ≡ Some files → AreRead words files job f s) where
+module _ (words : List (List ℕ)) (holds : Option Files) (job : Job) (job_is : IsJob words job) (f s : File) (read : (files : Files) → holds ≡ Some files → AreRead words files job f s) where
   pub solves_rightly : (result : Result Solution Stop) → IfOk result (λ solution. IsWorkable job f s × IsSolved job f s solution) → IfOk result (SolvesRightly words holds)
   solves_rightly (Ok solution) solved = record {
     reached = record {

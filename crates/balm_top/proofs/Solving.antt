@@ -1,7 +1,7 @@
 -- The solution of the problem is that of the job.
 use Rattle.std.proofs.Common.{◌≡◌, ◌≤◌, ◌<◌, ◌⊎◌, inl, inr, refl, sym, subst}
 use Rattle.std.specs.Prelude.{Result, Ok, Err, None, IfOk, IfErr, OnOk, OnErr}
-use Rattle.net_model.specs.Nets.{Net}
+use Rattle.net_model.specs.Files.{File}
 use Rattle.net_model.specs.Problems.{Problem}
 use Rattle.net_problem.specs.ProblemBits.{problem_bits}
 use Rattle.job_words.specs.Jobs.{Job}
@@ -14,7 +14,7 @@ use Rattle.solution_text.specs.Solutions.{IsSolutionOf}
 use Rattle.balm_top.specs.Refusals.{AcceptsNames, problem_for}
 use Rattle.balm_top.specs.Stops.{IsWorkable, IsSolved, StopsWork}
 
-module _ (job : Job) (f s : Net) (problem : Problem) (is : problem ≡ problem_for job f s) (names : AcceptsNames job f s) where
+module _ (job : Job) (f s : File) (problem : Problem) (is : problem ≡ problem_for job f s) (names : AcceptsNames job f s) where
   pub solved_for : (found : Result Solution Halt) (result : Result Solution Stop) → IfOk result (λ solution. found ≡ Ok solution) → IfOk found (IsSolutionOf problem) → OnOk found (problem_bits problem None ≤ 2000)
       → IfOk result (λ solution. IsWorkable job f s × IsSolved job f s solution)
   solved_for found (Err stop) same solved few = tt

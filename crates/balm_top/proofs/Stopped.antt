@@ -1,7 +1,7 @@
 use Rattle.std.proofs.Common.{◌≡◌, ◌≤◌, ◌⊎◌, inl, inr, ℕ, List, Option, Some, None, refl, sym, subst, arith}
 use Rattle.io_core.specs.Files.{Files, bytes_under}
 use Rattle.io_core.specs.Causes.{Rose}
-use Rattle.net_model.specs.Nets.{Net}
+use Rattle.net_model.specs.Files.{File}
 use Rattle.net_model.specs.Problems as problems
 use Rattle.net_model.specs.declared.text_fault.TextKind.{TextKind}
 use Rattle.net_model.specs.declared.text_fault.TextKind.TheVariants as kinds
@@ -51,7 +51,7 @@ module _ (words : List (List ℕ)) (holds : Option Files) (faults between faults
   stops_at_file Memory h = tt
 
 -- A stop once both files are read is a stop of the whole.
-module _ (words : List (List ℕ)) (holds : Option Files) (faults faults' : List ℕ → ℕ) (job : Job) (job_is : IsJob words job) (f s : Net) (read : (files : Files) → holds ≡ Some files → AreRead words files job f s) where
+module _ (words : List (List ℕ)) (holds : Option Files) (faults faults' : List ℕ → ℕ) (job : Job) (job_is : IsJob words job) (f s : File) (read : (files : Files) → holds ≡ Some files → AreRead words files job f s) where
   -- a refusal of the names, where it isn't want of memory
   names_stop : (refusal : Option problems.NameRefusal) → RefusesNamesOf job f s refusal → RefusesNamesHeld words holds refusal
   names_stop None h = tt

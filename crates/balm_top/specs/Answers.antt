@@ -4,8 +4,9 @@ use Rattle.io_core.specs.Causes.{Rose}
 use Rattle.io_core.specs.Gained.{gained, GainsFrontOf}
 use Rattle.net_model.specs.Words.{Word, Language}
 use Rattle.net_model.specs.Equation.{Topology, IsSafe, InLargest, IsLargestSolution}
-use Rattle.net_model.specs.Nets.{Net}
-use Rattle.net_model.specs.NetLanguages.{letters_of, NetWords, Means, StandsForAutomaton}
+use Rattle.net_model.specs.Files.{File}
+use Rattle.net_model.specs.Files.{file_letters, FileWords, Means}
+use Rattle.net_model.specs.NetLanguages.{StandsForAutomaton}
 use Rattle.net_model.specs.declared.class.Class.{Class}
 use Rattle.net_model.specs.declared.class.Class.TheVariants.{All}
 use Rattle.job_words.specs.Jobs.{Job, IsJob, HasNoJob}
@@ -37,13 +38,13 @@ IsVerdict Memory L = ⊥
 -- it; and the status is the verdict.
 pub record IsAnswer (words : List (List ℕ)) (files : Files) (status : Status) (text : List ℕ) : Type 0 where
   pub job : Job
-  pub f : Net
-  pub s : Net
+  pub f : File
+  pub s : File
   pub problem : IsProblem words files job f s
-  pub automaton : StandsForAutomaton text (topology_of job (letters_of f) (letters_of s)).x
-  pub exact : IsLargestText All (topology_of job (letters_of f) (letters_of s)) (NetWords f) (NetWords s) text
-  pub solution : IsLargestSolution All (topology_of job (letters_of f) (letters_of s)) (NetWords f) (NetWords s) (Means text (topology_of job (letters_of f) (letters_of s)).x)
-  pub verdict : IsVerdict status (Means text (topology_of job (letters_of f) (letters_of s)).x)
+  pub automaton : StandsForAutomaton text (topology_of job (file_letters f) (file_letters s)).x
+  pub exact : IsLargestText All (topology_of job (file_letters f) (file_letters s)) (FileWords f) (FileWords s) text
+  pub solution : IsLargestSolution All (topology_of job (file_letters f) (file_letters s)) (FileWords f) (FileWords s) (Means text (topology_of job (file_letters f) (file_letters s)).x)
+  pub verdict : IsVerdict status (Means text (topology_of job (file_letters f) (file_letters s)).x)
 
 -- Where the job was done, the shelf tells what it holds and out what it took, out has gained one text, the answer.
 abbrev pub SolveIsExact : List (List ℕ) → Option Files → Option (List ℕ) → Option (List ℕ) → Status → Type 0
@@ -58,7 +59,7 @@ SolveIsExact words holds old new status =
 pub record ReachesOutput (words : List (List ℕ)) (holds : Option Files) : Type 0 where
   pub job : Job
   pub job_is : IsJob words job
-  pub problem : (files : Files) → holds ≡ Some files → (f : Net) × (s : Net) × IsProblem words files job f s
+  pub problem : (files : Files) → holds ≡ Some files → (f : File) × (s : File) × IsProblem words files job f s
 
 -- Words without a job are told as such, or memory ran out over them, whatever the shelf tells.
 abbrev pub UsageRightly : List (List ℕ) → Status → Type 0

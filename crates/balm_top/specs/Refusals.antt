@@ -2,10 +2,10 @@ use Rattle.std.specs.Prelude.{◌≡◌, ◌≤◌, ◌<◌, ◌⊎◌, ℕ, Lis
 use Rattle.io_core.specs.Files.{Files, bytes_under}
 use Rattle.net_model.specs.Words.{Scope}
 use Rattle.net_model.specs.Equation.{Topology}
-use Rattle.net_model.specs.Nets.{Net}
-use Rattle.net_model.specs.NetLanguages.{letters_of}
+use Rattle.net_model.specs.Files.{File}
+use Rattle.net_model.specs.Files.{file_letters}
 use Rattle.net_model.specs.Topologies.{sync_topology}
-use Rattle.net_model.specs.Problems.{NetFile, NameRefusal, Problem, problem_of, first_refusal}
+use Rattle.net_model.specs.Problems.{NameRefusal, Problem, problem_of, first_refusal}
 use Rattle.net_problem.specs.ProblemBits.{problem_bits}
 use Rattle.net_model.specs.declared.class.Mode.TheVariants.{Sync}
 use Rattle.net_model.specs.declared.text_fault.TextKind.{TextKind}
@@ -25,31 +25,31 @@ topology_of job f s = sync_topology f s job.ins job.outs
 
 -- the step of this file is reached: it is F's, or it is S's and F's is read
 abbrev pub IsReached : Files → Job → List ℕ → Type 0
-IsReached files job name = (name ≡ job.f) ⊎ ((f : Net) × IsReadAs files job.f f × (name ≡ job.s))
+IsReached files job name = (name ≡ job.f) ⊎ ((f : File) × IsReadAs files job.f f × (name ≡ job.s))
 
--- both files are read, as these networks
-pub record AreRead (words : List (List ℕ)) (files : Files) (job : Job) (f s : Net) : Type 0 where
+-- both files are read, as these networks or machines
+pub record AreRead (words : List (List ℕ)) (files : Files) (job : Job) (f s : File) : Type 0 where
   pub job_is : IsJob words job
   pub f_read : IsReadAs files job.f f
   pub s_read : IsReadAs files job.s s
 
--- the first refusal of the names of a job, for files that are read as these networks
-abbrev pub RefusesNames : Job → Net → Net → NameRefusal → Type 0
-RefusesNames job f s refusal = first_refusal Sync (NetFile f) (NetFile s) job.ins job.outs ≡ Some refusal
+-- the first refusal of the names of a job, for files that stand for these
+abbrev pub RefusesNames : Job → File → File → NameRefusal → Type 0
+RefusesNames job f s refusal = first_refusal Sync f s job.ins job.outs ≡ Some refusal
 
-abbrev pub AcceptsNames : Job → Net → Net → Type 0
-AcceptsNames job f s = first_refusal Sync (NetFile f) (NetFile s) job.ins job.outs ≡ None
+abbrev pub AcceptsNames : Job → File → File → Type 0
+AcceptsNames job f s = first_refusal Sync f s job.ins job.outs ≡ None
 
--- the problem of a job whose files are these networks
-abbrev pub problem_for : Job → Net → Net → Problem
-problem_for job f s = problem_of Sync (NetFile f) (NetFile s) job.ins job.outs
+-- the problem of a job whose files are these
+abbrev pub problem_for : Job → File → File → Problem
+problem_for job f s = problem_of Sync f s job.ins job.outs
 
 -- how many bits it has
-abbrev pub bits_of_job : Job → Net → Net → ℕ
+abbrev pub bits_of_job : Job → File → File → ℕ
 bits_of_job job f s = problem_bits (problem_for job f s) None
 
 -- nothing is refused before the work
-pub record IsProblem (words : List (List ℕ)) (files : Files) (job : Job) (f s : Net) : Type 0 where
+pub record IsProblem (words : List (List ℕ)) (files : Files) (job : Job) (f s : File) : Type 0 where
   pub read : AreRead words files job f s
   pub names : AcceptsNames job f s
   pub few : bits_of_job job f s ≤ 2000
@@ -89,6 +89,6 @@ Refuses words files (Faulty name line kind) =
     × IsWithin (bytes_under files name)
     × HasFault (bytes_under files name) line kind
 Refuses words files (BadNames refusal) =
-    (job : Job) × (f : Net) × (s : Net) × AreRead words files job f s × RefusesNames job f s refusal
+    (job : Job) × (f : File) × (s : File) × AreRead words files job f s × RefusesNames job f s refusal
 Refuses words files TooManyBits =
-    (job : Job) × (f : Net) × (s : Net) × AreRead words files job f s × AcceptsNames job f s × (2000 < bits_of_job job f s)
+    (job : Job) × (f : File) × (s : File) × AreRead words files job f s × AcceptsNames job f s × (2000 < bits_of_job job f s)

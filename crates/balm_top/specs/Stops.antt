@@ -2,7 +2,7 @@ use Rattle.std.specs.Prelude.{◌≡◌, ◌≤◌, ◌<◌, ◌⊎◌, ℕ, tru
 use Rattle.io_core.specs.Files.{Files}
 use Rattle.io_core.specs.Causes.{Rose}
 use Rattle.io_core.specs.Gained.{gained, GainsFrontOf}
-use Rattle.net_model.specs.Nets.{Net}
+use Rattle.net_model.specs.Files.{File}
 use Rattle.net_model.specs.Problems as problems
 use Rattle.solution_text.specs.declared.solution.Solution.{Solution}
 use Rattle.solution_text.specs.Solutions.{IsSolutionOf}
@@ -45,15 +45,15 @@ StopsRightly words holds faults faults' TooManyBits = RefusesHeld words holds re
 StopsRightly words holds faults faults' Memory = Unit {0}
 
 -- the names make a problem that has few enough bits
-abbrev pub IsWorkable : Job → Net → Net → Type 0
+abbrev pub IsWorkable : Job → File → File → Type 0
 IsWorkable job f s = AcceptsNames job f s × (bits_of_job job f s ≤ 2000)
 
-abbrev pub RefusesNamesOf : Job → Net → Net → Option problems.NameRefusal → Type 0
+abbrev pub RefusesNamesOf : Job → File → File → Option problems.NameRefusal → Type 0
 RefusesNamesOf job f s None = Unit {0}
 RefusesNamesOf job f s (Some refusal) = RefusesNames job f s refusal
 
 -- the cause of a stop once both files are read
-abbrev pub StopsWork : Job → Net → Net → Stop → Type 0
+abbrev pub StopsWork : Job → File → File → Stop → Type 0
 StopsWork job f s NoJob = ⊥
 StopsWork job f s (Unreadable name) = ⊥
 StopsWork job f s (TooLong name) = ⊥
@@ -62,15 +62,15 @@ StopsWork job f s (BadNames refusal) = RefusesNamesOf job f s (told_refusal refu
 StopsWork job f s TooManyBits = AcceptsNames job f s × (2000 < bits_of_job job f s)
 StopsWork job f s Memory = Unit {0}
 
--- the solution of a job whose files are these networks
-abbrev pub IsSolved : Job → Net → Net → Solution → Type 0
+-- the solution of a job whose files are these
+abbrev pub IsSolved : Job → File → File → Solution → Type 0
 IsSolved job f s solution = IsSolutionOf (problem_for job f s) solution
 
 -- the words name a job of which nothing is refused, and this is its solution
 pub record Solves (words : List (List ℕ)) (files : Files) (solution : Solution) : Type 0 where
   pub job : Job
-  pub f : Net
-  pub s : Net
+  pub f : File
+  pub s : File
   pub problem : IsProblem words files job f s
   pub solved : IsSolved job f s solution
 

@@ -1,8 +1,8 @@
 //! From the words to the solution: every step that may refuse, in its order.
 
 ghost use Rattle.std.specs.Prelude.{◌≡◌, ◌⊎◌, map, Ok, Err, IfOk, IfErr, OnErr};
-ghost use Rattle.net_model.specs.Nets.{net_of};
-ghost use Rattle.net_model.specs.SoundNets.{IsSound};
+ghost use Rattle.net_model.specs.Files.{file_of};
+ghost use Rattle.net_model.specs.Files.{IsSoundFile};
 ghost use Rattle.job_words.specs.Jobs.{job_of};
 ghost use Rattle.balm_top.specs.Refusals.{problem_for, AcceptsNames};
 ghost use Rattle.balm_top.specs.Stops.{StopsRightly, SolvesRightly, StopsWork, IsWorkable, IsSolved};
@@ -11,7 +11,7 @@ use fault_lines::Stop;
 use io_core::Shelf;
 use job_files::read_file;
 use job_words::{Args, Request, request_of};
-use net_model::{File, Mode, NameList, Net};
+use net_model::{File, Mode, NameList};
 use net_problem::Problem;
 use solution_text::{Halt, Solution};
 use std::alloc::{AllocError, Global};
@@ -43,12 +43,12 @@ pub fn solution_of<'a, H: Shelf>(
 }
 
 /// Tests the names and the bits, and solves.
-fn solve<'a>(alloc: Global, request: &Request<'a>, f: Net, s: Net) -> Result<Solution, Stop<'a>>
-    requires f_sound { IsSound (net_of f) }
-    requires s_sound { IsSound (net_of s) }
-    ensures solved { IfOk result (λ solution. IsWorkable (job_of request.now) (net_of f) (net_of s)
-        × IsSolved (job_of request.now) (net_of f) (net_of s) solution) }
-    ensures stopped { IfErr result (StopsWork (job_of request.now) (net_of f) (net_of s)) }
+fn solve<'a>(alloc: Global, request: &Request<'a>, f: File, s: File) -> Result<Solution, Stop<'a>>
+    requires f_sound { IsSoundFile (file_of f) }
+    requires s_sound { IsSoundFile (file_of s) }
+    ensures solved { IfOk result (λ solution. IsWorkable (job_of request.now) (file_of f) (file_of s)
+        × IsSolved (job_of request.now) (file_of f) (file_of s) solution) }
+    ensures stopped { IfErr result (StopsWork (job_of request.now) (file_of f) (file_of s)) }
 {
     let problem = match named_problem(alloc, request, f, s) {
         Ok(problem) => problem,
@@ -57,18 +57,18 @@ fn solve<'a>(alloc: Global, request: &Request<'a>, f: Net, s: Net) -> Result<Sol
     solution_or_stop(solution_text::solution_of(alloc, &problem))
 }
 
-/// The problem of a job whose files are these networks.
+/// The problem of a job whose files are these.
 fn named_problem<'a>(
     alloc: Global,
     request: &Request<'a>,
-    f: Net,
-    s: Net,
+    f: File,
+    s: File,
 ) -> Result<Problem, Stop<'a>>
-    requires f_sound { IsSound (net_of f) }
-    requires s_sound { IsSound (net_of s) }
-    ensures ok { IfOk result (λ problem. problem ≡ problem_for (job_of request.now) (net_of f) (net_of s)) }
-    ensures names { IfOk result (λ problem. AcceptsNames (job_of request.now) (net_of f) (net_of s)) }
-    ensures stopped { IfErr result (StopsWork (job_of request.now) (net_of f) (net_of s)) }
+    requires f_sound { IsSoundFile (file_of f) }
+    requires s_sound { IsSoundFile (file_of s) }
+    ensures ok { IfOk result (λ problem. problem ≡ problem_for (job_of request.now) (file_of f) (file_of s)) }
+    ensures names { IfOk result (λ problem. AcceptsNames (job_of request.now) (file_of f) (file_of s)) }
+    ensures stopped { IfErr result (StopsWork (job_of request.now) (file_of f) (file_of s)) }
 {
     let Ok(ins) = list_of(alloc, &request.ins) else {
         return Err(Stop::Memory);
@@ -76,7 +76,7 @@ fn named_problem<'a>(
     let Ok(outs) = list_of(alloc, &request.outs) else {
         return Err(Stop::Memory);
     };
-    match Problem::build(alloc, Mode::Sync, File::Net(f), File::Net(s), &ins, &outs) {
+    match Problem::build(alloc, Mode::Sync, f, s, &ins, &outs) {
         Ok(problem) => Ok(problem),
         Err(refusal) => Err(Stop::BadNames(refusal)),
     }

@@ -12,6 +12,7 @@ use Rattle.net_model.specs.declared.text_fault.Which.TheVariants.{Signals, Value
 use Rattle.net_model.specs.Forms.{Name, Form, ModelLine, InputsLine, OutputsLine, DomainsLine, TableLine, ResetLine, LatchLine, DefaultLine, EndLine, RowLine, is_mark, is_comma, directive_of, has_count, unmarked, latch_shape, end_shape, domains_shape, values_shape, columns_shape, table_shape, before_arrow, behind_arrow, shape_by, shape_of, apart, words_of, said_by, has_names}
 use Rattle.net_model.specs.NetTexts.{mentions, domain_given, domain_in, has_domains, is_model, is_end, ends_once, text_in, LinesSay}
 use Rattle.net_model.specs.Faults.{fault_or}
+use Rattle.net_model.proofs.OneFile.{model_begins}
 use Rattle.blifmv_names.specs.declared.place.Place.{Place}
 use Rattle.blifmv_names.specs.Signals.{Signal, given_in, with_mentions, signals_behind, signals_from, agrees}
 use Rattle.blifmv_names.specs.LineFaults.{is_model_word, is_unknown, is_misfit, is_second_default, has_many_values, has_many_columns, rows_on, limit_on, is_clashing, kind_of_names, limit_or, kind_of_form, kind_of_shape, kind_of_words, place_behind, fault_behind, first_fault, nothing_above, begins_model, begins_model_words, line_fault}
@@ -37,72 +38,6 @@ not_true false h = refl
 is_false : (b : Bool) → (b ≡ true → ⊥) → b ≡ false
 is_false true h = absurd (h refl)
 is_false false h = refl
-
--- the first word of a line of a model
-
-unmarked_not : (words : List Name) (line form : Form) → is_model line ≡ false → unmarked words line ≡ Some form → is_model form ≡ false
-unmarked_not words line form not_model h =
-    elim (list_any is_mark words) as (λ b. (if b then None else Some line) ≡ Some form → is_model form ≡ false) [
-      | true ↦ λ e. cc
-      | false ↦ λ e. let same : line ≡ form = cc in subst (λ (f : Form). is_model f ≡ false) same not_model
-    ] h
-
-values_not : (names : List Name) (count : Name) (values : List Name) (form : Form) → values_shape names count values ≡ Some form → is_model form ≡ false
-values_not names count values form h =
-    elim (has_count count values) as (λ b. (if b then unmarked values (DomainsLine names count values) else None) ≡ Some form → is_model form ≡ false) [
-      | true ↦ λ e. unmarked_not values (DomainsLine names count values) form refl e
-      | false ↦ λ e. cc
-    ] h
-
-domains_not : (words names : List Name) (form : Form) → domains_shape names words ≡ Some form → is_model form ≡ false
-domains_not [] names form h = cc
-domains_not (name ∷ []) names form h = cc
-domains_not (name ∷ word ∷ words) names form h =
-    let more = domains_not words (names ++ name ∷ []) form in
-    elim (is_mark name) as (λ b. (if b then None else (if is_comma word then domains_shape (names ++ name ∷ []) words else values_shape (names ++ name ∷ []) word words)) ≡ Some form → is_model form ≡ false) [
-      | true ↦ λ e. cc
-      | false ↦ λ e.
-          elim (is_comma word) as (λ b. (if b then domains_shape (names ++ name ∷ []) words else values_shape (names ++ name ∷ []) word words) ≡ Some form → is_model form ≡ false) [
-            | true ↦ λ f. more f
-            | false ↦ λ f. values_not (names ++ name ∷ []) word words form f
-          ] e
-    ] h
-
-columns_not : (line : List Name → List Name → Form) (ins outs : List Name) (form : Form) → ((i o : List Name) → is_model (line i o) ≡ false) → columns_shape line ins outs ≡ Some form → is_model form ≡ false
-columns_not line ins [] form not_model h = cc
-columns_not line ins (out ∷ outs) form not_model h = unmarked_not (ins ++ out ∷ outs) (line ins (out ∷ outs)) form (not_model ins (out ∷ outs)) h
-
-table_not : (line : List Name → List Name → Form) (words : List Name) (behind : Option (List Name)) (form : Form) → ((i o : List Name) → is_model (line i o) ≡ false) → table_shape line words behind ≡ Some form → is_model form ≡ false
-table_not line words None form not_model h = columns_not line (take (length words - 1) words) (drop (length words - 1) words) form not_model h
-table_not line words (Some outs) form not_model h = columns_not line (before_arrow words) outs form not_model h
-
-latch_not : (words : List Name) (form : Form) → latch_shape words ≡ Some form → is_model form ≡ false
-latch_not [] form h = cc
-latch_not (input ∷ []) form h = cc
-latch_not (input ∷ output ∷ []) form h = unmarked_not (input ∷ output ∷ []) (LatchLine input output) form refl h
-latch_not (input ∷ output ∷ word ∷ words) form h = cc
-
-end_not : (words : List Name) (form : Form) → end_shape words ≡ Some form → is_model form ≡ false
-end_not [] form h = let same : EndLine ≡ form = cc in subst (λ (f : Form). is_model f ≡ false) same refl
-end_not (word ∷ words) form h = cc
-
-model_only : (directive : Directive) (first : Name) (words : List Name) (form : Form) → shape_by directive first words ≡ Some form → is_model form ≡ true → is_model_word directive ≡ true
-model_only directives.Model first words form h is = refl
-model_only directives.Inputs first words form h is = sym (unmarked_not words (InputsLine words) form refl h) ∙ is
-model_only directives.Outputs first words form h is = sym (unmarked_not words (OutputsLine words) form refl h) ∙ is
-model_only directives.Domains first words form h is = sym (domains_not words [] form h) ∙ is
-model_only directives.Table first words form h is = sym (table_not TableLine words (behind_arrow words) form (λ i o. refl) h) ∙ is
-model_only directives.Reset first words form h is = sym (table_not ResetLine words (behind_arrow words) form (λ i o. refl) h) ∙ is
-model_only directives.Latch first words form h is = sym (latch_not words form h) ∙ is
-model_only directives.Default first words form h is = let same : DefaultLine words ≡ form = cc in ap is_model same ∙ is
-model_only directives.Instance first words form h is = cc
-model_only directives.End first words form h is = sym (end_not words form h) ∙ is
-model_only directives.Unknown first words form h is = cc
-model_only directives.Row first words form h is = let same : RowLine (first ∷ words) ≡ form = cc in ap is_model same ∙ is
-
-model_begins : (words : List Name) (form : Form) → shape_of (apart words) ≡ Some form → is_model form ≡ true → begins_model_words words ≡ true
-model_begins [] form h is = cc
-model_begins (first ∷ words) form h is = model_only (directive_of first) first _ form h is
 
 -- one line
 

@@ -13,6 +13,7 @@ use Rattle.net_model.specs.declared.text_fault.Which.TheVariants.{Signals, Value
 use Rattle.net_model.specs.Forms.{Name, Form, DomainsLine, TableLine, ResetLine, DefaultLine, RowLine, directive_of, number_of, has_count, shape_of, apart, words_of, has_names}
 use Rattle.net_model.specs.Spellings.{spells}
 use Rattle.net_model.specs.NetTexts.{is_model, is_end, domain_given}
+pub use Rattle.net_model.specs.NetTexts.{is_model_word, begins_model_words}
 use Rattle.net_model.specs.Faults.{fault_or}
 use Rattle.blifmv_names.specs.declared.line_fault.LineFault.{LineFault}
 use Rattle.blifmv_names.specs.declared.line_fault.LineFault.TheVariants.{Kind, Memory}
@@ -27,10 +28,6 @@ use Rattle.blifmv_names.specs.Signals.{Signal, given_in, gives, with_mentions, s
 abbrev pub is_end_word : Directive → Bool
 is_end_word directives.End = true
 is_end_word _ = false
-
-abbrev pub is_model_word : Directive → Bool
-is_model_word directives.Model = true
-is_model_word _ = false
 
 abbrev pub is_unknown_word : Directive → Bool
 is_unknown_word directives.Unknown = true
@@ -161,10 +158,6 @@ nothing_above = record { begun = false; ended = false; width = None; rows = 0 }
 abbrev pub first_line : List LogicalLine → ℕ
 first_line [] = 1
 first_line (line ∷ lines) = line.number
-
-abbrev pub begins_model_words : List Name → Bool
-begins_model_words [] = false
-begins_model_words (first ∷ words) = is_model_word (directive_of first)
 
 abbrev pub begins_model : List LogicalLine → Bool
 begins_model [] = false

@@ -16,8 +16,9 @@ use Rattle.net_model.specs.Equation.{Topology}
 use Rattle.net_model.specs.Nets.{Net}
 use Rattle.net_model.specs.Conditions.{latch_outputs}
 use Rattle.net_model.specs.NetLanguages.{letter_signals}
-use Rattle.net_model.specs.SoundNets.{IsSound}
-use Rattle.net_model.specs.Problems.{File, NetFile, Problem, IsSoundFile, file_letters, IsBuilt}
+use Rattle.net_model.specs.Outlines.{outline, IsWired}
+use Rattle.net_model.proofs.Outlined.{file-wired}
+use Rattle.net_model.specs.Problems.{File, Problem, IsSoundFile, file_letters, IsBuilt}
 use Rattle.net_model.specs.declared.class.Mode.{Mode}
 use Rattle.net_model.specs.declared.class.Mode.TheVariants.{Sync}
 use Rattle.net_problem.specs.ProblemBits.{own_scope, file_bits, joint_bits}
@@ -57,7 +58,7 @@ level-among f (m ∷ numbers) n k there at =
     ]
 
 -- a file whose own levels begin at `level`, where the letters end below `start`
-module _ (t : Table) (net : Net) (sound : IsSound net) (joint : List Layout) (start level : ℕ) (low : start ≤ level) (room : level + bits_in (own_scope net) ≤ t.levels) where
+module _ (t : Table) (net : Net) (sound : IsWired net) (joint : List Layout) (start level : ℕ) (low : start ≤ level) (room : level + bits_in (own_scope net) ≤ t.levels) where
   letters-low : All (λ signal. EndsBelow start (spot_named joint (variable_at net.names signal).name)) (letter_signals net) → (k : ℕ) → is_in (all_levels (map (signal_spot Sync joint net level) (letter_signals net))) k ≡ true → k < start
   letters-low ends =
       subst (λ (spots : List Layout). (k : ℕ) → is_in (all_levels spots) k ≡ true → k < start) (letters-are Sync joint net level)
@@ -109,13 +110,14 @@ module _ (t : Table) (net : Net) (sound : IsSound net) (joint : List Layout) (st
   }
 
 file-around : (t : Table) (topology : Topology) (first level : ℕ) → topology.mode ≡ Sync → Grounds topology → first + joint_bits topology ≤ level → (file : File) → IsSoundFile file → AreJoint topology.joint (file_letters file) → level + file_bits file ≤ t.levels → LiesAround t (first + joint_bits topology) (file_spots topology.mode (joint_of topology first) level file)
-file-around t topology first level sync ground low (NetFile net) sound are room =
+file-around t topology first level sync ground low file sound are room =
+    let net = outline file in
     let joint = joint_of topology first in
     let start = first + joint_bits topology in
     let has : All (λ signal. has_spot joint (variable_at net.names signal).name ≡ true) (letter_signals net) =
-    subst (λ (mode : Mode). HasLetters mode joint net) sync (has-letters topology first ground (NetFile net) (λ _. are)) in
+    subst (λ (mode : Mode). HasLetters mode joint net) sync (has-letters topology first ground file (λ _. are)) in
     subst (λ (mode : Mode). LiesAround t start (net_spots mode joint level net)) (sym sync)
-    (around t net sound joint start level low room
+    (around t net (file-wired file sound) joint start level low room
     (All-weaker (λ signal. has_spot joint (variable_at net.names signal).name ≡ true) (λ signal. EndsBelow start (spot_named joint (variable_at net.names signal).name))
     (λ signal there. holds-named (EndsBelow start) joint (variable_at net.names signal).name (joint-ends topology first ground) there)
     (letter_signals net) has))

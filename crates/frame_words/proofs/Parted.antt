@@ -19,7 +19,9 @@ use Rattle.net_model.specs.Words.{Scope, Letter, IsLetter}
 use Rattle.net_model.specs.Parts.{value_of, letter_part}
 use Rattle.net_model.specs.Topologies.{is_named, variable_named, joint_scope}
 use Rattle.net_model.specs.NetLanguages.{letter_signals}
-use Rattle.net_model.specs.Problems.{File, NetFile, file_letters}
+use Rattle.net_model.specs.Outlines.{outline}
+use Rattle.net_model.proofs.Outlined.{outline-letters}
+use Rattle.net_model.specs.Problems.{File, file_letters}
 use Rattle.net_model.specs.declared.class.Mode.TheVariants.{Sync}
 use Rattle.net_frame.specs.Frames.{level_in, joint_spot, added, joint_spots, spot_named, file_spots, AreJoint}
 use Rattle.net_frame.proofs.Among.{map-map, each-weaker}
@@ -44,13 +46,15 @@ number-named x first next (v ∷ joint) bits name =
 
 -- what the bits spell at the letters of a file
 pub file-part : (x : Scope) (first next : ℕ) (joint : Scope) (level : ℕ) (file : File) (bits : Bits) → spelled (file_spots Sync (joint_spots x first next joint) level file).letters bits ≡ letter_part joint (file_letters file) (spelled (joint_spots x first next joint) bits)
-file-part x first next joint level (NetFile net) bits =
+file-part x first next joint level file bits =
+    let net = outline file in
     let spots = joint_spots x first next joint in
     let named : ℕ → Layout = λ signal. spot_named spots (variable_at net.names signal).name in
     ap (λ letters. spelled letters bits) (sym (letters-are Sync spots net level))
     ∙ map-map (λ (spot : Layout). number_of spot 0 bits) named (letter_signals net)
     ∙ (λ i. map (λ signal. number-named x first next joint bits (variable_at net.names signal).name i) (letter_signals net))
     ∙ sym (map-map (λ (v : Variable). value_of joint (spelled spots bits) v.name) (variable_at net.names) (letter_signals net))
+    ∙ ap (λ letters. letter_part joint letters (spelled spots bits)) (outline-letters file)
 
 -- each variable of a scope is the one of its name there
 pub own-joint : (vars : Scope) → are_different (names_of vars) ≡ true → AreJoint vars vars

@@ -1,9 +1,9 @@
-use Rattle.std.proofs.Common.{◌≡◌, ℕ, List, Option, Some, None, Result, Ok, Err, refl, subst}
+use Rattle.std.proofs.Common.{◌≡◌, ℕ, List, Option, Some, None, Result, Ok, Err, refl}
 use Rattle.net_model.specs.Nets.{Net}
 use Rattle.net_model.specs.NetTexts.{text_in, variables_in, net_said}
 use Rattle.net_model.specs.declared.net.Net as declared_net
 use Rattle.net_model.specs.declared.text_fault.TextFault.{TextFault}
-use Rattle.net_model.specs.declared.text_fault.TextFault.TheVariants.{At}
+use Rattle.net_model.specs.declared.text_fault.TextFault.TheVariants.{At, Memory}
 use Rattle.net_model.specs.declared.text_fault.TextKind.{TextKind}
 use Rattle.net_model.specs.Faults.{Finds}
 use Rattle.blifmv_names.specs.Limits.{IsWithinLimits}
@@ -11,7 +11,7 @@ use Rattle.blifmv_names.specs.LineFaults.{line_fault}
 use Rattle.blifmv_names.proofs.Within.{text_faultless}
 use Rattle.blifmv_tables.specs.RowFaults.{row_fault}
 use Rattle.blifmv_reader.specs.Told.{FindsFirst, FindsRowFault, FindsSignalFault, FindsNetFault}
-use Rattle.job_files.specs.Reads.{HasFault}
+use Rattle.job_files.specs.Reads.{IsFaultIn}
 
 -- What the reader's answer says of a text.
 
@@ -30,12 +30,12 @@ told_first : (line : ℕ) (kind : TextKind) (first : Option TextFault) (later la
 told_first line kind None later later' on found = on found
 told_first line kind (Some fault) later later' on found = found
 
-pub fault_told : (bytes : List ℕ) (line : ℕ) (kind : TextKind) → FindsNetFault {T = declared_net.Net} (Err (At line kind)) bytes → HasFault bytes line kind
+fault_told : (bytes : List ℕ) (line : ℕ) (kind : TextKind) → FindsNetFault {T = declared_net.Net} (Err (At line kind)) bytes → FindsNetFault {T = Net} (Err (At line kind)) bytes
 fault_told bytes line kind found =
     told_first line kind (line_fault bytes) _ _
     (told_first line kind (row_fault (variables_in (text_in bytes)) bytes) _ _ (λ (signals : FindsSignalFault {T = declared_net.Net} (Err (At line kind)) bytes). (signals.0, signals.1, signals.2)))
     found
 
-pub fault_is_told : (bytes : List ℕ) (line : ℕ) (kind : TextKind) (fault : TextFault) → fault ≡ At line kind → FindsNetFault {T = declared_net.Net} (Err fault) bytes → HasFault bytes line kind
-fault_is_told bytes line kind fault is found =
-    fault_told bytes line kind (subst (λ f. FindsNetFault {T = declared_net.Net} (Err f) bytes) is found)
+pub net_told : (bytes : List ℕ) (fault : TextFault) → FindsNetFault {T = declared_net.Net} (Err fault) bytes → IsFaultIn bytes fault
+net_told bytes (At line kind) found = fault_told bytes line kind found
+net_told bytes Memory found = tt

@@ -2,14 +2,13 @@
 
 ghost use Rattle.std.specs.Prelude.{◌≡◌, ◌≤◌, ℕ, List, Some, IfOk, IfErr};
 ghost use Rattle.io_core.specs.Files.{Files, bytes_under};
-ghost use Rattle.net_model.specs.Nets.{net_of};
-ghost use Rattle.net_model.specs.SoundNets.{IsSound};
-ghost use Rattle.job_files.specs.Reads.{IsWithin, IsReadAs, StopsAtFile};
+ghost use Rattle.net_model.specs.Files.{file_of, IsSoundFile, StandsForFile};
+ghost use Rattle.job_files.specs.Reads.{IsWithin, IsReadAs, KeepsLimits, IsFaultIn, StopsAtFile};
 
 use blifmv_reader::read_net;
 use fault_lines::Stop;
 use io_core::{LoadFault, Shelf};
-use net_model::{Net, TextFault};
+use net_model::{File, TextFault};
 use std::alloc::Global;
 
 /// The most bytes of one file.
@@ -36,10 +35,14 @@ fn load_file<'a, H: Shelf>(alloc: Global, shelf: &mut H, name: &'a str) -> Resul
 }
 
 /// The network that a file stands for.
-pub fn read_file<'a, H: Shelf>(alloc: Global, shelf: &mut H, name: &'a str) -> Result<Net, Stop<'a>>
-    ensures ok { IfOk result (λ net. (files : Files) → H.holds shelf.old ≡ Some files
-        → IsReadAs files name.now (net_of net)) }
-    ensures sound { IfOk result (λ net. IsSound (net_of net)) }
+pub fn read_file<'a, H: Shelf>(
+    alloc: Global,
+    shelf: &mut H,
+    name: &'a str,
+) -> Result<File, Stop<'a>>
+    ensures ok { IfOk result (λ file. (files : Files) → H.holds shelf.old ≡ Some files
+        → IsReadAs files name.now (file_of file)) }
+    ensures sound { IfOk result (λ file. IsSoundFile (file_of file)) }
     ensures stopped { IfErr result (StopsAtFile name.now (H.holds shelf.old) (H.faults shelf.old) (H.faults shelf.new)) }
     ensures kept { H.holds shelf.new ≡ H.holds shelf.old }
     ensures later { (other : List ℕ) → H.faults shelf.old other ≤ H.faults shelf.new other }
@@ -48,9 +51,22 @@ pub fn read_file<'a, H: Shelf>(alloc: Global, shelf: &mut H, name: &'a str) -> R
         Ok(bytes) => bytes,
         Err(stop) => return Err(stop),
     };
-    match read_net(alloc, &bytes) {
-        Ok(net) => Ok(net),
+    match read_text(alloc, &bytes) {
+        Ok(file) => Ok(file),
         Err(TextFault::Memory) => Err(Stop::Memory),
         Err(TextFault::At { line, kind }) => Err(Stop::Faulty(name, line, kind)),
+    }
+}
+
+/// The network that the bytes stand for.
+fn read_text(alloc: Global, bytes: &[u8]) -> Result<File, TextFault>
+    ensures stands { IfOk result (λ file. StandsForFile bytes.now (file_of file)) }
+    ensures limits { IfOk result (λ file. KeepsLimits bytes.now (file_of file)) }
+    ensures sound { IfOk result (λ file. IsSoundFile (file_of file)) }
+    ensures fault { IfErr result (IsFaultIn bytes.now) }
+{
+    match read_net(alloc, bytes) {
+        Ok(net) => Ok(File::Net(net)),
+        Err(fault) => Err(fault),
     }
 }

@@ -13,7 +13,7 @@ use Rattle.bdd_ops.specs.Levels.{is_in, sources, renamed}
 use Rattle.bdd_ops.proofs.Members.{same-tests}
 use Rattle.net_model.specs.Nets.{Net}
 use Rattle.net_model.specs.Conditions.{latch_outputs}
-use Rattle.net_model.specs.SoundNets.{IsSound}
+use Rattle.net_model.specs.Outlines.{IsWired}
 use Rattle.mv_encoding.specs.Layouts.{Layout, levels_of, number_at, number_of}
 use Rattle.mv_encoding.specs.Spots.{all_levels, spelled}
 use Rattle.net_frame.specs.Placing.{targets}
@@ -40,7 +40,7 @@ map-flat : (side : (ℕ × ℕ) → ℕ) (f : ℕ → List (ℕ × ℕ)) (xs : L
 map-flat side f [] = refl
 map-flat side f (x ∷ xs) = map-append side (f x) (flat_map f xs) ∙ ap (λ ls. map side (f x) ++ ls) (map-flat side f xs)
 
-module _ (net : Net) (sound : IsSound net) (start : ℕ) (side : (ℕ × ℕ) → ℕ) (g : ℕ → Layout) (each : (output : ℕ) → map side (latch_back net start output) ≡ levels_of (g output)) where
+module _ (net : Net) (sound : IsWired net) (start : ℕ) (side : (ℕ × ℕ) → ℕ) (g : ℕ → Layout) (each : (output : ℕ) → map side (latch_back net start output) ≡ levels_of (g output)) where
   of-signal : (k signal : ℕ) → list_any (nat_eq signal) (latch_outputs net) ≡ true → is_in (map side (back_from net start signal)) k ≡ is_in (levels_of (g signal)) k
   of-signal k signal is = ap (λ b. is_in (map side (cond b (latch_back net start signal) [])) k) is ∙ ap (λ ls. is_in ls k) (each signal)
 
@@ -92,11 +92,11 @@ latch-targets v level =
     map-map (λ (p : ℕ × ℕ). p.1) (λ k. (level + b + k, level + k)) (range_with_len 0 b)
     ∙ shifted level 0 b ∙ (λ i. range_with_len (first i) (size i))
 
-pub sources-next : (net : Net) → IsSound net → (start k : ℕ) → is_in (sources (flat_map (back_from net start) (range_with_len 0 (length net.names)))) k ≡ is_in (all_levels (map (next_spot net start) (latch_outputs net))) k
+pub sources-next : (net : Net) → IsWired net → (start k : ℕ) → is_in (sources (flat_map (back_from net start) (range_with_len 0 (length net.names)))) k ≡ is_in (all_levels (map (next_spot net start) (latch_outputs net))) k
 sources-next net sound start k =
     same-levels net sound start (λ p. p.0) (next_spot net start) (λ output. latch-sources (variable_at net.names output) (own_level net start output)) k
 
-pub targets-present : (net : Net) → IsSound net → (start k : ℕ) → is_in (targets (flat_map (back_from net start) (range_with_len 0 (length net.names)))) k ≡ is_in (all_levels (map (own_spot net start) (latch_outputs net))) k
+pub targets-present : (net : Net) → IsWired net → (start k : ℕ) → is_in (targets (flat_map (back_from net start) (range_with_len 0 (length net.names)))) k ≡ is_in (all_levels (map (own_spot net start) (latch_outputs net))) k
 targets-present net sound start k =
     same-levels net sound start (λ p. p.1) (own_spot net start) (λ output. latch-targets (variable_at net.names output) (own_level net start output)) k
 
@@ -114,7 +114,7 @@ number-shift (suc b) l m u w same =
     ap u here ∙ same (k + 1) (omega (arith, below)) ∙ ap w there) in
     λ i. cond (first i) (2 ^ b) 0 + rest i
 
-pub reads-present : (net : Net) → IsSound net → (start : ℕ) (bits : Bits) → spelled (map (next_spot net start) (latch_outputs net)) (renamed (flat_map (back_from net start) (range_with_len 0 (length net.names))) bits) ≡ spelled (map (own_spot net start) (latch_outputs net)) bits
+pub reads-present : (net : Net) → IsWired net → (start : ℕ) (bits : Bits) → spelled (map (next_spot net start) (latch_outputs net)) (renamed (flat_map (back_from net start) (range_with_len 0 (length net.names))) bits) ≡ spelled (map (own_spot net start) (latch_outputs net)) bits
 reads-present net sound start bits =
     let through = renamed (flat_map (back_from net start) (range_with_len 0 (length net.names))) bits in
     map-map (λ (spot : Layout). number_of spot 0 through) (next_spot net start) (latch_outputs net)

@@ -15,7 +15,8 @@ use Rattle.bdd_ops.specs.Levels.{is_in, sources, renamed}
 use Rattle.net_model.specs.Nets.{Net}
 use Rattle.net_model.specs.Conditions.{latch_outputs}
 use Rattle.net_problem.specs.ProblemBits.{own_of, own_before, own_scope}
-use Rattle.net_problem.proofs.BitSums.{range-suc, own-next}
+use Rattle.net_problem.proofs.BitSums.{own-next}
+use Rattle.net_model.proofs.Counting.{range-suc}
 use Rattle.net_frame.specs.Placing.{targets}
 use Rattle.net_frame.specs.Frames.{own_level, back_at, latch_back, back_from}
 use Rattle.net_frame.proofs.Among.{each-weaker}

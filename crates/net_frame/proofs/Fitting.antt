@@ -16,14 +16,15 @@ use Rattle.net_model.specs.Equation.{Topology}
 use Rattle.net_model.specs.Nets.{Net}
 use Rattle.net_model.specs.Conditions.{latch_outputs}
 use Rattle.net_model.specs.NetLanguages.{letter_signals, letters_of}
-use Rattle.net_model.specs.SoundNets.{IsSound}
-use Rattle.net_model.specs.Problems.{File, NetFile, Problem, IsSoundFile, file_letters, IsBuilt}
+use Rattle.net_model.specs.Outlines.{outline, IsWired}
+use Rattle.net_model.specs.Problems.{File, Problem, IsSoundFile, file_letters, IsBuilt}
 use Rattle.net_model.specs.Topologies.{is_named, variable_named}
 use Rattle.net_model.specs.declared.class.Mode.{Mode}
 use Rattle.net_model.specs.declared.class.Mode.TheVariants.{Sync}
 use Rattle.mv_encoding.specs.Layouts.{Layout, IsLaid}
 use Rattle.mv_encoding.specs.Spots.{AreApart}
 use Rattle.net_problem.specs.ProblemBits.{own_scope, file_bits, third_bits, joint_bits, problem_bits}
+use Rattle.net_model.proofs.Outlined.{outline-letters, file-wired}
 use Rattle.net_frame.specs.Placing.{FileSpots, IsPlaced}
 use Rattle.net_frame.specs.Frames.{shared_by, added, joint_spot, joint_spots, spot_named, own_spot, next_spot, signal_spot, net_spots, file_spots, joint_of, frame_of, all_back, third_back, AreJoint, IsFilePlaced, IsThird, FitsProblem}
 use Rattle.net_frame.specs.Making.{has_spot}
@@ -84,7 +85,7 @@ module _ (topology : Topology) (first start : ℕ) (ground : Grounds topology) (
 
 -- the codes of a network
 
-net-placed : (t : Table) (net : Net) → IsSound net → (joint : List Layout) (start : ℕ) → StandsOn net joint start → start + bits_in (own_scope net) ≤ t.levels → IsPlaced t net (net_spots Sync joint start net)
+net-placed : (t : Table) (net : Net) → IsWired net → (joint : List Layout) (start : ℕ) → StandsOn net joint start → start + bits_in (own_scope net) ≤ t.levels → IsPlaced t net (net_spots Sync joint start net)
 net-placed t net sound joint start standing room =
     let signal = signal_spot Sync joint net start in
     let n = length net.names in
@@ -113,8 +114,9 @@ net-placed t net sound joint start standing room =
     }
 
 file-placed : (t : Table) (topology : Topology) (first start : ℕ) → Grounds topology → first + joint_bits topology ≤ start → (file : File) → IsSoundFile file → AreJoint topology.joint (file_letters file) → start + file_bits file ≤ t.levels → IsFilePlaced t file (file_spots Sync (joint_of topology first) start file)
-file-placed t topology first start ground low (NetFile net) sound are room =
-    net-placed t net sound (joint_of topology first) start (stands-on topology first start ground low net are) room
+file-placed t topology first start ground low file sound are room =
+    net-placed t (outline file) (file-wired file sound) (joint_of topology first) start
+    (stands-on topology first start ground low (outline file) (subst (AreJoint topology.joint) (sym (outline-letters file)) are)) room
 
 placed-in : (t : Table) (topology : Topology) (first start : ℕ) → topology.mode ≡ Sync → Grounds topology → first + joint_bits topology ≤ start → (file : File) → IsSoundFile file → AreJoint topology.joint (file_letters file) → start + file_bits file ≤ t.levels → IsFilePlaced t file (file_spots topology.mode (joint_of topology first) start file)
 placed-in t topology first start sync ground low file sound are room =
@@ -124,7 +126,7 @@ placed-in t topology first start sync ground low file sound are room =
 -- the maps of the files
 
 file-back : (mode : Mode) (joint : List Layout) (start : ℕ) (file : File) → IsBackOn start (start + file_bits file) (file_spots mode joint start file).back
-file-back mode joint start (NetFile net) = back-net net start
+file-back mode joint start file = back-net (outline file) start
 
 third-back : (mode : Mode) (joint : List Layout) (start : ℕ) (third : Option File) → IsBackOn start (start + third_bits third) (third_back (option_map (file_spots mode joint start) third))
 third-back mode joint start None = back-none start (start + 0)

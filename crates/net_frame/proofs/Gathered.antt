@@ -4,7 +4,7 @@ use Rattle.std.specs.List.{flat_map, range_with_len}
 use Rattle.std.proofs.lemmas.List.{append-nil, map_more, take_more}
 use Rattle.std.proofs.lemmas.List.Concat.{flat_map-append}
 use Rattle.std.proofs.lemmas.List.FromFn.{map-range_with_len_more}
-use Rattle.net_problem.proofs.BitSums.{range-suc}
+use Rattle.net_model.proofs.Counting.{range-suc}
 
 module _ {X : Type 0} where
   pub mapped-more : (f : ℕ → X) (had now : List X) (x : X) (n : ℕ) → had ≡ map f (range_with_len 0 n) → x ≡ f n → now ≡ had ++ x ∷ [] → now ≡ map f (range_with_len 0 (n + 1))

@@ -10,14 +10,16 @@ use Rattle.name_table.specs.Variables.{names_of, are_different}
 use Rattle.net_model.specs.Words.{Scope}
 use Rattle.net_model.specs.Equation.{Topology}
 use Rattle.net_model.specs.NetLanguages.{letter_signals, letters_of}
+use Rattle.net_model.specs.Outlines.{outline}
 use Rattle.net_model.specs.Parts.{actions_of}
-use Rattle.net_model.specs.Problems.{File, NetFile, Problem, IsSoundFile, file_letters, file_refusal, first_refusal, IsBuilt}
+use Rattle.net_model.specs.Problems.{File, Problem, IsSoundFile, file_letters, file_refusal, first_refusal, IsBuilt}
 use Rattle.net_model.specs.Topologies.{is_named, variable_named, joint_scope, joint_actions, acting, topology_by}
 use Rattle.net_model.specs.declared.class.Mode.{Mode}
 use Rattle.net_model.specs.declared.class.Mode.TheVariants.{Sync, Parallel}
 use Rattle.mv_encoding.specs.Layouts.{Layout}
 use Rattle.std.specs.Option.{option_map}
 use Rattle.net_problem.specs.ProblemBits.{joint_bits, third_bits, file_bits}
+use Rattle.net_model.proofs.Outlined.{outline-letters, file-wired}
 use Rattle.net_problem.proofs.Joined.{joint_names_different, joint_few}
 use Rattle.net_problem.proofs.NamesKnown.{known_named}
 use Rattle.net_problem.proofs.Refused.{both_none}
@@ -32,21 +34,27 @@ use Rattle.net_frame.proofs.LetterSpots.{letters-few, letters-different}
 use Rattle.net_frame.proofs.SharedNames.{joint-has-f, joint-has-s}
 
 pub file-different : (file : File) → IsSoundFile file → are_different (names_of (file_letters file)) ≡ true
-file-different (NetFile net) sound = letters-different net sound
+file-different file sound = subst (λ (letters : Scope). are_different (names_of letters) ≡ true) (outline-letters file) (letters-different (outline file) (file-wired file sound))
 
 pub file-few : (file : File) → IsSoundFile file → length (file_letters file) ≤ 4096
-file-few (NetFile net) sound = let few = letters-few net sound in let size = length-map (letter_signals net) (variable_at net.names) in omega (arith, few, size)
+file-few file sound =
+    let few = letters-few (outline file) (file-wired file sound) in
+    let size = length-map (letter_signals (outline file)) (variable_at (outline file).names) in
+    let same = ap length (outline-letters file) in
+    omega (arith, few, size, same)
 
 -- letters that are joint variables have codes
 pub joint-letters : (x : Scope) (first next : ℕ) (joint : Scope) (file : File) → AreJoint joint (file_letters file) → FileHasLetters Sync (joint_spots x first next joint) file
-joint-letters x first next joint (NetFile net) are =
+joint-letters x first next joint file are =
     λ i d within.
+    let net = outline file in
+    let are = subst (AreJoint joint) (sym (outline-letters file)) are in
     let one = mapped-holds (λ v. (is_named joint v.name ≡ true) × (variable_named joint v.name ≡ v)) (variable_at net.names) (letter_signals net) (letters_of net) refl are i d within in
     joint-has x first next joint (variable_at net.names (get_or (letter_signals net) i d)).name ∙ one.0
 
 -- in parallel mode there is a joint variable
 pub act-letters : (spots : List Layout) (file : File) → 0 < length spots → FileHasLetters Parallel spots file
-act-letters spots (NetFile net) some = λ i d within. lt-ltb 0 (length spots) some
+act-letters spots file some = λ i d within. lt-ltb 0 (length spots) some
 
 -- what is known of the joint variables and of X's
 pub record Grounds (topology : Topology) : Type 0 where

@@ -9,7 +9,8 @@ use Rattle.std.proofs.lemmas.List.Elements.{All-map, All-weaker, All-from_recurs
 use Rattle.name_table.specs.CodeBits.{bits_in}
 use Rattle.node_table.specs.Table.{Table}
 use Rattle.net_model.specs.NetLanguages.{letter_signals}
-use Rattle.net_model.specs.Problems.{File, NetFile, Problem, IsBuilt}
+use Rattle.net_model.specs.Outlines.{outline}
+use Rattle.net_model.specs.Problems.{File, Problem, IsBuilt}
 use Rattle.net_model.specs.declared.class.Mode.{Mode}
 use Rattle.net_model.specs.declared.class.Mode.TheVariants.{Sync, Parallel}
 use Rattle.net_model.specs.declared.refusal.Slot.{Slot}
@@ -42,12 +43,14 @@ laid-at t spots laid k =
     ]
 
 placed-laid : (t : Table) (file : File) (spots : FileSpots) → IsFilePlaced t file spots → AreLaid t spots.letters
-placed-laid t (NetFile net) spots placed =
+placed-laid t file spots placed =
+    let net = outline file in
     subst (λ (letters : List Layout). AreLaid t letters) (sym placed.letters)
     (All-map (λ spot. IsLaid spot t) (spot_at spots.signals) (letter_signals net) (λ i d within. laid-at t spots.signals placed.signals_laid (get_or (letter_signals net) i d)))
 
 act-laid : (t : Table) (joint : List Layout) (start : ℕ) (file : File) → AreLaid t joint → AreLaid t (file_spots Parallel joint start file).letters
-act-laid t joint start (NetFile net) laid =
+act-laid t joint start file laid =
+    let net = outline file in
     All-map (λ spot. IsLaid spot t) (signal_spot Parallel joint net start) (letter_signals net)
     (All-from_recursion (λ s. IsLaid (signal_spot Parallel joint net start s) t) (letter_signals net)
     (each-weaker (λ s. list_any (nat_eq s) (letter_signals net) ≡ true) (λ s. IsLaid (signal_spot Parallel joint net start s) t)

@@ -11,10 +11,11 @@ use Rattle.name_table.proofs.Chosen.{length_chosen}
 use Rattle.net_model.specs.Nets.{Net, Latch, latch_of}
 use Rattle.net_model.specs.declared.net.Latch as declared_latch
 use Rattle.net_model.specs.Conditions.{drives, latch_outputs}
-use Rattle.net_model.specs.SoundNets.{IsSound, AreKnown}
+use Rattle.net_model.specs.SoundNets.{AreKnown}
+use Rattle.net_model.specs.Outlines.{IsWired}
 use Rattle.net_model.proofs.Letters.{counted_first}
 
-module _ (net : Net) (sound : IsSound net) where
+module _ (net : Net) (sound : IsWired net) where
   latches-known : All (λ latch. latch.output < length net.names) net.latches
   latches-known =
       All-weaker (λ (latch : Latch). AreKnown net (latch.input ∷ latch.output ∷ [])) (λ (latch : Latch). latch.output < length net.names)
@@ -26,7 +27,7 @@ module _ (net : Net) (sound : IsSound net) where
 
   pub outputs-once : (k : ℕ) → count_by (nat_eq k) (latch_outputs net) ≤ 1
   outputs-once k =
-      let driven : count_by (nat_eq k) (drives net) ≤ 1 = sound.conditions.once k in
+      let driven : count_by (nat_eq k) (drives net) ≤ 1 = sound.once k in
       let counted = sum_by-append (λ y. cond (nat_eq k y) 1 0) net.inputs (flat_map (λ table. table.outs) net.tables ++ latch_outputs net) in
       let behind = sum_by-append (λ y. cond (nat_eq k y) 1 0) (flat_map (λ table. table.outs) net.tables) (latch_outputs net) in
       omega (arith, driven, counted, behind)
@@ -51,7 +52,7 @@ once-distinct (x ∷ xs) once =
     later : (k : ℕ) (b : Bool) → nat_eq k x ≡ b → count_by (nat_eq k) xs ≤ 1
     later k b is = let all = counted_first k x xs b is in let few : count_by (nat_eq k) (x ∷ xs) ≤ 1 = once k in omega (arith, all, few)
 
-module _ (net : Net) (sound : IsSound net) where
+module _ (net : Net) (sound : IsWired net) where
   pub outputs-few : length (latch_outputs net) ≤ 4096
   outputs-few =
       let few = length_chosen net.names net.latches (λ latch. latch.output) (latches-known net sound) (once-distinct (latch_outputs net) (outputs-once net sound)) in
@@ -68,7 +69,7 @@ module _ (net : Net) (sound : IsSound net) where
 
 -- the output of a latch as it is kept
 
-pub latch-at : (net : Net) → IsSound net → (items : List declared_latch.Latch) → map (λ latch. latch.output) (map latch_of items) ≡ latch_outputs net → (i : ℕ) (d : declared_latch.Latch) → i < length items → ((get_or items i d).output.0 < length net.names) × (list_any (nat_eq (get_or items i d).output.0) (latch_outputs net) ≡ true)
+pub latch-at : (net : Net) → IsWired net → (items : List declared_latch.Latch) → map (λ latch. latch.output) (map latch_of items) ≡ latch_outputs net → (i : ℕ) (d : declared_latch.Latch) → i < length items → ((get_or items i d).output.0 < length net.names) × (list_any (nat_eq (get_or items i d).output.0) (latch_outputs net) ≡ true)
 latch-at net sound items are i d within =
     let inner = length-map items latch_of in
     let size = length-map (map latch_of items) (λ (latch : Latch). latch.output) in

@@ -5,7 +5,7 @@ use Rattle.std.proofs.lemmas.Bool.{eq-eqb, or_left, or_right}
 use Rattle.name_table.specs.ScopeVars.{variable_at, chosen_of}
 use Rattle.net_model.specs.Nets.{Net}
 use Rattle.net_model.specs.NetLanguages.{letter_signals, letters_of}
-use Rattle.net_model.specs.SoundNets.{IsSound}
+use Rattle.net_model.specs.Outlines.{IsWired}
 use Rattle.net_model.specs.declared.class.Mode.{Mode}
 use Rattle.net_model.proofs.Letters.{letters_known, letters_distinct}
 use Rattle.name_table.proofs.Chosen.{length_chosen, chosen_differ}
@@ -47,12 +47,12 @@ map-same : (xs : List ℕ) → map (λ x. x) xs ≡ xs
 map-same [] = refl
 map-same (x ∷ xs) = ap (λ ys. x ∷ ys) (map-same xs)
 
-pub letters-few : (net : Net) → IsSound net → length (letter_signals net) ≤ 4096
+pub letters-few : (net : Net) → IsWired net → length (letter_signals net) ≤ 4096
 letters-few net sound =
     let few = length_chosen net.names (letter_signals net) (λ signal. signal) (letters_known net sound) (subst (λ (ks : List ℕ). IsDistinct nat_eq ks) (sym (map-same (letter_signals net))) (letters_distinct net sound)) in
     omega (arith, few, sound.known.names.few)
 
-pub letters-different : (net : Net) → IsSound net → are_different (names_of (letters_of net)) ≡ true
+pub letters-different : (net : Net) → IsWired net → are_different (names_of (letters_of net)) ≡ true
 letters-different net sound =
     ap (λ signals. are_different (names_of (chosen_of net.names signals))) (sym (map-same (letter_signals net)))
     ∙ chosen_differ net.names (letter_signals net) (λ signal. signal) (letters_known net sound) (subst (λ (ks : List ℕ). IsDistinct nat_eq ks) (sym (map-same (letter_signals net))) (letters_distinct net sound)) sound.known.names.different

@@ -16,7 +16,7 @@ use Rattle.net_model.specs.Words.{Scope}
 use Rattle.net_model.specs.Nets.{Net}
 use Rattle.net_model.specs.Conditions.{latch_outputs}
 use Rattle.net_model.specs.NetLanguages.{letter_signals, states_of}
-use Rattle.net_model.specs.SoundNets.{IsSound}
+use Rattle.net_model.specs.Outlines.{IsWired}
 use Rattle.net_model.specs.declared.class.Mode.TheVariants.{Sync}
 use Rattle.net_model.proofs.Letters.{letters_known}
 use Rattle.mv_encoding.specs.Layouts.{Layout, IsLaid}
@@ -43,7 +43,7 @@ pub record IsOutput (net : Net) (signal : ℕ) : Type 0 where
   pub known : signal < length net.names
   pub is : list_any (nat_eq signal) (latch_outputs net) ≡ true
 
-pub outputs-are : (net : Net) → IsSound net → AllByRecursion (IsOutput net) (latch_outputs net)
+pub outputs-are : (net : Net) → IsWired net → AllByRecursion (IsOutput net) (latch_outputs net)
 outputs-are net sound =
     recursion_from_All (IsOutput net) (latch_outputs net)
     (λ i d within.
@@ -55,7 +55,7 @@ zip-by R f [] all = tt
 zip-by R f (n ∷ numbers) all = (all.0, zip-by R f numbers all.1)
 
 -- what holds of the image of each output
-pub each-output : (net : Net) → IsSound net → (f : ℕ → Layout) (Q : Layout → Type 0) → ((signal : ℕ) → IsOutput net signal → Q (f signal)) → All Q (map f (latch_outputs net))
+pub each-output : (net : Net) → IsWired net → (f : ℕ → Layout) (Q : Layout → Type 0) → ((signal : ℕ) → IsOutput net signal → Q (f signal)) → All Q (map f (latch_outputs net))
 each-output net sound f Q each =
     All-map Q f (latch_outputs net) (All-from_recursion (λ n. Q (f n)) (latch_outputs net) (each-weaker (IsOutput net) (λ n. Q (f n)) each (latch_outputs net) (outputs-are net sound)))
 
@@ -93,7 +93,7 @@ module _ (net : Net) (joint : List Layout) (start : ℕ) (standing : StandsOn ne
   pub spot-is : (signal : ℕ) → signal < length net.names → spot_at (map (signal_spot Sync joint net start) (range_with_len 0 (length net.names))) signal ≡ signal_spot Sync joint net start signal
   spot-is signal known = get_or-map-range_with_len (signal_spot Sync joint net start) 0 (length net.names) signal signal (record { scope = []; first = 0 }) known (omega arith)
 
-  pub letters-at : IsSound net → map (signal_spot Sync joint net start) (letter_signals net) ≡ spots_at (map (signal_spot Sync joint net start) (range_with_len 0 (length net.names))) (letter_signals net)
+  pub letters-at : IsWired net → map (signal_spot Sync joint net start) (letter_signals net) ≡ spots_at (map (signal_spot Sync joint net start) (range_with_len 0 (length net.names))) (letter_signals net)
   letters-at sound =
       same-images (signal_spot Sync joint net start) (spot_at (map (signal_spot Sync joint net start) (range_with_len 0 (length net.names)))) (λ signal. signal < length net.names)
       (λ signal known. sym (spot-is signal known)) (letter_signals net) (recursion_from_All (λ signal. signal < length net.names) (letter_signals net) (letters_known net sound))
@@ -119,7 +119,7 @@ module _ (net : Net) (joint : List Layout) (start : ℕ) (standing : StandsOn ne
         | inr none ↦ lies-beside net start i j (signal_spot Sync joint net start i) spot differ (signal-lies i none) lies
       ]
 
-  pub signals-beside : IsSound net → (i j : ℕ) → i < j → j < length net.names → AreBeside (signal_spot Sync joint net start i) (signal_spot Sync joint net start j)
+  pub signals-beside : IsWired net → (i j : ℕ) → i < j → j < length net.names → AreBeside (signal_spot Sync joint net start i) (signal_spot Sync joint net start j)
   signals-beside sound i j less below =
       elim (cases_Bool (list_any (nat_eq j) (letter_signals net))) [
         | inl is_j ↦
@@ -169,13 +169,13 @@ module _ (net : Net) (joint : List Layout) (start : ℕ) (standing : StandsOn ne
                 (λ same. false≢true (sym none ∙ (ap (λ n. list_any (nat_eq n) (letter_signals net)) same ∙ is))) (signal-lies signal none) (in-present net start output good.is)
           ]
 
-  pub outputs-placed : IsSound net → AllZip (IsPresentOf (map (signal_spot Sync joint net start) (range_with_len 0 (length net.names)))) (map (own_spot net start) (latch_outputs net)) (latch_outputs net)
+  pub outputs-placed : IsWired net → AllZip (IsPresentOf (map (signal_spot Sync joint net start) (range_with_len 0 (length net.names)))) (map (own_spot net start) (latch_outputs net)) (latch_outputs net)
   outputs-placed sound =
       zip-by (IsPresentOf (map (signal_spot Sync joint net start) (range_with_len 0 (length net.names)))) (own_spot net start) (latch_outputs net)
       (each-weaker (IsOutput net) (λ n. IsPresentOf (map (signal_spot Sync joint net start) (range_with_len 0 (length net.names))) (own_spot net start n) n) present-of (latch_outputs net) (outputs-are net sound))
 
   -- the letters share nothing with the states
-  pub letter-states : IsSound net → (signal : ℕ) → list_any (nat_eq signal) (letter_signals net) ≡ true → All (AreApart (signal_spot Sync joint net start signal)) (map (own_spot net start) (latch_outputs net) ++ map (next_spot net start) (latch_outputs net))
+  pub letter-states : IsWired net → (signal : ℕ) → list_any (nat_eq signal) (letter_signals net) ≡ true → All (AreApart (signal_spot Sync joint net start signal)) (map (own_spot net start) (latch_outputs net) ++ map (next_spot net start) (latch_outputs net))
   letter-states sound signal is =
       All-append (AreApart (signal_spot Sync joint net start signal)) (map (own_spot net start) (latch_outputs net)) (map (next_spot net start) (latch_outputs net))
       (each-output net sound (own_spot net start) (AreApart (signal_spot Sync joint net start signal))
@@ -185,7 +185,7 @@ module _ (net : Net) (joint : List Layout) (start : ℕ) (standing : StandsOn ne
 
 -- the states among one another
 
-module _ (net : Net) (sound : IsSound net) (start : ℕ) where
+module _ (net : Net) (sound : IsWired net) (start : ℕ) where
   pub states-apart : AllPairs AreApart (map (own_spot net start) (latch_outputs net) ++ map (next_spot net start) (latch_outputs net))
   states-apart =
       let distinct = once-distinct (latch_outputs net) (outputs-once net sound) in

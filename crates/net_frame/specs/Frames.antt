@@ -16,7 +16,8 @@ use Rattle.net_model.specs.Conditions.{latch_outputs}
 use Rattle.net_model.specs.NetLanguages.{letter_signals}
 use Rattle.net_model.specs.Topologies.{is_named, variable_named}
 use Rattle.net_model.specs.Equation.{Topology}
-use Rattle.net_model.specs.Problems.{File, NetFile, Problem, file_letters, IsSoundFile}
+use Rattle.net_model.specs.Outlines.{outline}
+use Rattle.net_model.specs.Problems.{File, Problem, file_letters, IsSoundFile}
 use Rattle.net_model.specs.declared.class.Mode.{Mode}
 use Rattle.net_model.specs.declared.class.Mode.TheVariants.{Sync, Parallel}
 use Rattle.net_model.specs.declared.refusal.Slot.{Slot}
@@ -107,7 +108,7 @@ net_spots mode joint start net = record {
 }
 
 abbrev pub file_spots : Mode → List Layout → ℕ → File → FileSpots
-file_spots mode joint start (NetFile net) = net_spots mode joint start net
+file_spots mode joint start file = net_spots mode joint start (outline file)
 
 -- the spots of all joint variables, where X's letter stands from `first` on
 abbrev pub joint_of : Topology → ℕ → List Layout
@@ -158,7 +159,7 @@ pub record IsThird (problem : Problem) (third : Option File) : Type 0 where
 
 -- the codes of a file in synchronous mode
 abbrev pub IsFilePlaced : Table → File → FileSpots → Type 0
-IsFilePlaced t (NetFile net) spots = IsPlaced t net spots
+IsFilePlaced t file spots = IsPlaced t (outline file) spots
 
 -- The frame is that of the problem and the third file, on levels of the Space.
 pub record FitsProblem (t : Table) (problem : Problem) (third : Option File) (frame : Frame) : Type 0 where

@@ -7,7 +7,8 @@ use Rattle.name_table.specs.ScopeVars.{variable_at}
 use Rattle.net_model.specs.Words.{Scope}
 use Rattle.net_model.specs.Nets.{Net}
 use Rattle.net_model.specs.NetLanguages.{letter_signals}
-use Rattle.net_model.specs.Problems.{File, NetFile}
+use Rattle.net_model.specs.Outlines.{outline}
+use Rattle.net_model.specs.Problems.{File}
 use Rattle.net_model.specs.declared.class.Mode.{Mode}
 use Rattle.net_model.specs.declared.class.Mode.TheVariants.{Sync, Parallel}
 use Rattle.mv_encoding.specs.Layouts.{Layout}
@@ -39,7 +40,7 @@ abbrev pub HasLetters : Mode → List Layout → Net → Type 0
 HasLetters mode joint net = All (λ signal. has_letter mode joint (variable_at net.names signal).name ≡ true) (letter_signals net)
 
 abbrev pub FileHasLetters : Mode → List Layout → File → Type 0
-FileHasLetters mode joint (NetFile net) = HasLetters mode joint net
+FileHasLetters mode joint file = HasLetters mode joint (outline file)
 
 -- single variables on levels that a Space can have
 pub record AreJointCodes (spots : List Layout) : Type 0 where

@@ -6,7 +6,8 @@ ghost use Rattle.mv_encoding.specs.Spots.{all_levels};
 ghost use Rattle.name_table.specs.CodeBits.{bits_in};
 ghost use Rattle.net_model.specs.Nets.{net_of};
 ghost use Rattle.net_model.specs.Problems.{file_of, IsSoundFile};
-ghost use Rattle.net_model.specs.SoundNets.{IsSound};
+ghost use Rattle.net_model.specs.Machines.{machine_of, IsSoundMachine};
+ghost use Rattle.net_model.specs.Outlines.{outline_of, IsWired};
 ghost use Rattle.net_problem.specs.ProblemBits.{own_scope, file_bits};
 ghost use Rattle.net_frame.specs.Frames.{file_spots, net_spots};
 ghost use Rattle.net_frame.specs.Making.{AreJointCodes, HasLetters, FileHasLetters};
@@ -16,7 +17,7 @@ use crate::latches::{codes_of_next, codes_of_present, pairs_of_latches};
 use crate::letters::{bits_before_each, codes_of_letters, codes_of_signals};
 use bdd_ops::{LevelMap, LevelSet};
 use mv_encoding::Coding;
-use net_model::{File, Mode, Net};
+use net_model::{File, Machine, Mode, Net};
 use std::alloc::{AllocError, Global};
 use std::marker::Model;
 
@@ -63,7 +64,25 @@ impl FileFrame {
     {
         match file {
             File::Net(net) => FileFrame::of_net(alloc, mode, joint, start, net),
+            File::Machine(machine) => FileFrame::of_machine(alloc, mode, joint, start, machine),
         }
+    }
+
+    fn of_machine(
+        alloc: Global,
+        mode: Mode,
+        joint: &[Coding],
+        start: u32,
+        machine: &Machine,
+    ) -> Result<FileFrame, AllocError>
+        requires sound { IsSoundMachine (machine_of machine.now) }
+        requires joint { AreJointCodes joint.now }
+        requires there { HasLetters mode joint.now (outline_of (machine_of machine.now)) }
+        requires room { start + bits_in (own_scope (outline_of (machine_of machine.now))) ≤ 8192 }
+        ensures { IfOk result (λ frame. frame ≡ net_spots mode joint.now start (outline_of (machine_of machine.now))) }
+    {
+        let outline = machine.outline(alloc)?;
+        FileFrame::of_net(alloc, mode, joint, start, &outline)
     }
 
     fn of_net(
@@ -73,7 +92,7 @@ impl FileFrame {
         start: u32,
         net: &Net,
     ) -> Result<FileFrame, AllocError>
-        requires sound { IsSound (net_of net.now) }
+        requires sound { IsWired (net_of net.now) }
         requires joint { AreJointCodes joint.now }
         requires there { HasLetters mode joint.now (net_of net.now) }
         requires room { start + bits_in (own_scope (net_of net.now)) ≤ 8192 }

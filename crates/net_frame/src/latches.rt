@@ -6,7 +6,7 @@ ghost use Rattle.name_table.specs.CodeBits.{bits_in};
 ghost use Rattle.name_table.specs.ScopeVars.{variable_at};
 ghost use Rattle.net_model.specs.Conditions.{latch_outputs};
 ghost use Rattle.net_model.specs.Nets.{net_of};
-ghost use Rattle.net_model.specs.SoundNets.{IsSound};
+ghost use Rattle.net_model.specs.Outlines.{IsWired};
 ghost use Rattle.net_problem.specs.ProblemBits.{own_scope};
 ghost use Rattle.net_frame.specs.Frames.{own_spot, next_spot, back_at, back_from};
 ghost use Rattle.net_frame.specs.Making.{all_before};
@@ -25,7 +25,7 @@ pub(crate) fn codes_of_present(
     net: &Net,
     before: &[u32],
 ) -> Result<Vec<Coding>, AllocError>
-    requires sound { IsSound (net_of net.now) }
+    requires sound { IsWired (net_of net.now) }
     requires before { before.now ≡ all_before (net_of net.now) }
     requires room { start + bits_in (own_scope (net_of net.now)) ≤ 8192 }
     ensures { IfOk result (λ codes. codes.items ≡ map (own_spot (net_of net.now) start) (latch_outputs (net_of net.now))) }
@@ -60,7 +60,7 @@ pub(crate) fn codes_of_next(
     net: &Net,
     before: &[u32],
 ) -> Result<Vec<Coding>, AllocError>
-    requires sound { IsSound (net_of net.now) }
+    requires sound { IsWired (net_of net.now) }
     requires before { before.now ≡ all_before (net_of net.now) }
     requires room { start + bits_in (own_scope (net_of net.now)) ≤ 8192 }
     ensures { IfOk result (λ codes. codes.items ≡ map (next_spot (net_of net.now) start) (latch_outputs (net_of net.now))) }

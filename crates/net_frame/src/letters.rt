@@ -7,7 +7,7 @@ ghost use Rattle.name_table.specs.CodeBits.{bits_in};
 ghost use Rattle.name_table.specs.ScopeVars.{variable_at};
 ghost use Rattle.net_model.specs.Nets.{net_of};
 ghost use Rattle.net_model.specs.NetLanguages.{letter_signals};
-ghost use Rattle.net_model.specs.SoundNets.{IsSound};
+ghost use Rattle.net_model.specs.Outlines.{IsWired};
 ghost use Rattle.mv_encoding.specs.Spots.{IsSpot, spot_of};
 ghost use Rattle.net_problem.specs.ProblemBits.{own_scope};
 ghost use Rattle.net_frame.specs.Frames.{letter_spot, signal_spot, spot_named};
@@ -40,7 +40,7 @@ pub(crate) fn codes_of_letters(
     joint: &[Coding],
     net: &Net,
 ) -> Result<Vec<Coding>, AllocError>
-    requires sound { IsSound (net_of net.now) }
+    requires sound { IsWired (net_of net.now) }
     requires joint { AreJointCodes joint.now }
     requires there { HasLetters mode joint.now (net_of net.now) }
     ensures { IfOk result (λ codes. codes.items ≡ map (λ signal. letter_spot mode joint.now (variable_at (net_of net.now).names signal).name) (letter_signals (net_of net.now))) }

@@ -1,4 +1,4 @@
--- The letters of a sound network are different signals that have names.
+-- The letters of a network whose signals are driven once are different signals that have names.
 use Rattle.std.proofs.Common.{◌≡◌, ◌<◌, ◌≤◌, ◌+◌, ◌||◌, ℕ, Bool, true, false, not, cond, List, [], ◌∷◌, ◌++◌, length, map, nat_eq, count_by, All, refl, sym, ◌∙◌, ap, subst, zero-add, arith}
 use Rattle.std.specs.Prelude.{filter, if◌then◌else◌}
 use Rattle.std.specs.List.{AllByRecursion, list_any, flat_map, IsDistinct}
@@ -14,6 +14,7 @@ use Rattle.net_model.specs.Nets.{Net}
 use Rattle.net_model.specs.Conditions.{drives}
 use Rattle.net_model.specs.NetLanguages.{is_automaton, other_outputs, letter_signals}
 use Rattle.net_model.specs.SoundNets.{IsSound}
+use Rattle.net_model.specs.Outlines.{IsWired}
 
 -- how often a number stands in a list
 
@@ -92,42 +93,47 @@ both_once had xs once more k =
       | false ↦ λ is. let none = none_counted k had is in let kept = kept_few k (is_new had) xs in omega (arith, all, none, kept, other)
     ] refl
 
--- of a sound network
+-- a sound network is one
 
-inputs_once : (net : Net) → IsSound net → (k : ℕ) → count_by (nat_eq k) net.inputs ≤ 1
-inputs_once net sound k =
-    let driven : count_by (nat_eq k) (drives net) ≤ 1 = sound.conditions.once k in
+pub wired_of : (net : Net) → IsSound net → IsWired net
+wired_of net sound = record { known = sound.known; outputs_once = sound.outputs_once; once = sound.conditions.once }
+
+-- of a network with different signals
+
+inputs_once : (net : Net) → IsWired net → (k : ℕ) → count_by (nat_eq k) net.inputs ≤ 1
+inputs_once net wired k =
+    let driven : count_by (nat_eq k) (drives net) ≤ 1 = wired.once k in
     let all = counted_both k net.inputs (flat_map (λ table. table.outs) net.tables ++ map (λ latch. latch.output) net.latches) in
     omega (arith, driven, all)
 
-pub letters_distinct : (net : Net) → IsSound net → IsDistinct nat_eq (letter_signals net)
-letters_distinct net sound =
+pub letters_distinct : (net : Net) → IsWired net → IsDistinct nat_eq (letter_signals net)
+letters_distinct net wired =
     elim (is_automaton net) as (λ b. IsDistinct nat_eq (if b then net.inputs else net.inputs ++ other_outputs net)) [
-      | true ↦ once_distinct net.inputs (inputs_once net sound)
-      | false ↦ once_distinct (net.inputs ++ other_outputs net) (both_once net.inputs net.outputs (inputs_once net sound) sound.outputs_once)
+      | true ↦ once_distinct net.inputs (inputs_once net wired)
+      | false ↦ once_distinct (net.inputs ++ other_outputs net) (both_once net.inputs net.outputs (inputs_once net wired) wired.outputs_once)
     ]
 
-pub letters_known : (net : Net) → IsSound net → All (λ signal. signal < length net.names) (letter_signals net)
-letters_known net sound =
+pub letters_known : (net : Net) → IsWired net → All (λ signal. signal < length net.names) (letter_signals net)
+letters_known net wired =
     elim (is_automaton net) as (λ b. All (λ signal. signal < length net.names) (if b then net.inputs else net.inputs ++ other_outputs net)) [
-      | true ↦ sound.known.inputs
-      | false ↦ All-append (λ signal. signal < length net.names) net.inputs (other_outputs net) sound.known.inputs
-          (All-filter (is_new net.inputs) (λ signal. signal < length net.names) net.outputs sound.known.outputs)
+      | true ↦ wired.known.inputs
+      | false ↦ All-append (λ signal. signal < length net.names) net.inputs (other_outputs net) wired.known.inputs
+          (All-filter (is_new net.inputs) (λ signal. signal < length net.names) net.outputs wired.known.outputs)
     ]
 
 -- of a list in the code whose numbers these are
-module _ {V : Type 0} (net : Net) (vs : List V) (f : V → ℕ) (are : map f vs ≡ letter_signals net) (sound : IsSound net) where
+module _ {V : Type 0} (net : Net) (vs : List V) (f : V → ℕ) (are : map f vs ≡ letter_signals net) (wired : IsWired net) where
   pub listed_known : All (λ v. f v < length net.names) vs
   listed_known k v within =
       let inside : k < length (map f vs) = subst (λ n. k < n) (sym (length-map vs f)) within in
-      let all : All (λ signal. signal < length net.names) (map f vs) = subst (λ (ks : List ℕ). All (λ signal. signal < length net.names) ks) (sym are) (letters_known net sound) in
+      let all : All (λ signal. signal < length net.names) (map f vs) = subst (λ (ks : List ℕ). All (λ signal. signal < length net.names) ks) (sym are) (letters_known net wired) in
       subst (λ n. n < length net.names) (get_or-map f vs k v) (all k (f v) inside)
 
   listed_distinct : IsDistinct nat_eq (map f vs)
-  listed_distinct = subst (λ (ks : List ℕ). IsDistinct nat_eq ks) (sym are) (letters_distinct net sound)
+  listed_distinct = subst (λ (ks : List ℕ). IsDistinct nat_eq ks) (sym are) (letters_distinct net wired)
 
   pub listed_differ : are_different (names_of (chosen_of net.names (map f vs))) ≡ true
-  listed_differ = chosen_differ net.names vs f listed_known listed_distinct sound.known.names.different
+  listed_differ = chosen_differ net.names vs f listed_known listed_distinct wired.known.names.different
 
   pub listed_few : length vs ≤ 4096
-  listed_few = let few = length_chosen net.names vs f listed_known listed_distinct in omega (arith, few, sound.known.names.few)
+  listed_few = let few = length_chosen net.names vs f listed_known listed_distinct in omega (arith, few, wired.known.names.few)

@@ -1,4 +1,8 @@
 pub mod Largest
 pub mod Letters
+pub mod OneFile
 pub mod OneNet
 pub mod Computed
+pub mod Taken
+pub mod Outlined
+pub mod Counting

@@ -3,6 +3,7 @@ pub mod Automata
 pub mod Conditions
 pub mod Equation
 pub mod Faults
+pub mod Files
 pub mod Forms
 pub mod KissForms
 pub mod KissTexts
@@ -11,6 +12,7 @@ pub mod Machines
 pub mod NetLanguages
 pub mod NetTexts
 pub mod Nets
+pub mod Outlines
 pub mod Parts
 pub mod Printed
 pub mod Problems

@@ -86,7 +86,3 @@ pub record StandsForAutomaton (bytes : List ℕ) (scope : Scope) : Type 0 where
   pub stands : StandsForNet bytes net
   pub automaton : IsAuto net
   pub letters : letters_of net ≡ scope
-
--- what a file means: its bytes stand for a network with these letters that has the word
-abbrev pub Means : List ℕ → Scope → Language
-Means bytes scope word = (net : Net) × StandsForNet bytes net × (letters_of net ≡ scope) × NetWords net word

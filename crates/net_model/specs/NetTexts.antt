@@ -4,8 +4,10 @@ use Rattle.std.specs.List.{list_all, flat_map, filter_map}
 use Rattle.lex_core.specs.LogicalLines.{logical_lines}
 use Rattle.name_table.specs.Variables.{names_of, is_in, place_of, are_different, are_same, with_name, numbers}
 use Rattle.net_model.specs.Words.{Scope}
-use Rattle.net_model.specs.Forms.{Name, Form, ModelLine, InputsLine, OutputsLine, DomainsLine, TableLine, ResetLine, LatchLine, DefaultLine, EndLine, RowLine, number_of, has_names, said_by}
+use Rattle.net_model.specs.Forms.{Name, Form, ModelLine, InputsLine, OutputsLine, DomainsLine, TableLine, ResetLine, LatchLine, DefaultLine, EndLine, RowLine, directive_of, number_of, has_names, said_by}
 use Rattle.net_model.specs.Nets.{Entry, Row, Table, Latch, Net}
+use Rattle.net_model.specs.declared.directive.Directive.{Directive}
+use Rattle.net_model.specs.declared.directive.Directive.TheVariants as directives
 use Rattle.net_model.specs.Spellings.{row_spelled, default_spelled}
 use Rattle.net_model.specs.Conditions.{MeetsConditions}
 
@@ -178,6 +180,15 @@ net_with vars text = record {
 
 abbrev pub net_said : List Form → Net
 net_said text = net_with (variables_in text) text
+
+-- the first word is the one that opens a model
+abbrev pub is_model_word : Directive → Bool
+is_model_word directives.Model = true
+is_model_word _ = false
+
+abbrev pub begins_model_words : List Name → Bool
+begins_model_words [] = false
+begins_model_words (first ∷ words) = is_model_word (directive_of first)
 
 -- the line of a model opens the text, and stands nowhere else
 abbrev pub is_model : Form → Bool

@@ -4,36 +4,15 @@ use Rattle.net_model.specs.Words.{Scope}
 use Rattle.net_model.specs.Parts.{actions_of}
 use Rattle.net_model.specs.Equation.{Topology}
 use Rattle.net_model.specs.Topologies.{is_named, variable_named, joint_scope, joint_actions, topology_by}
-use Rattle.net_model.specs.Nets.{Net, net_of}
-use Rattle.net_model.specs.NetLanguages.{is_automaton, letters_of}
-use Rattle.net_model.specs.SoundNets.{IsSound}
+pub use Rattle.net_model.specs.Files.{File, NetFile, MachineFile, file_of, IsSoundFile, file_letters, has_one_variable}
 use Rattle.net_model.specs.declared.class.Mode.{Mode}
 use Rattle.net_model.specs.declared.class.Mode.TheVariants.{Sync, Parallel}
-use Rattle.net_model.specs.declared.net.File as declared_file
-use Rattle.net_model.specs.declared.net.File.TheVariants as files
 use Rattle.net_model.specs.declared.refusal.Slot.{Slot}
 use Rattle.net_model.specs.declared.refusal.Slot.TheVariants.{F, S}
 use Rattle.net_model.specs.declared.refusal.NameRefusal as declared_refusal
 use Rattle.net_model.specs.declared.refusal.NameRefusal.TheVariants as refusals
 
 -- The problem that two files and two lists of names make, and why names make none.
-
--- what a file holds, as plain data
-pub data File : Type 0 where
-  NetFile : Net → File
-
-abbrev pub file_of : declared_file.File → File
-file_of (files.Net net) = NetFile (net_of net)
-
-abbrev pub IsSoundFile : File → Type 0
-IsSoundFile (NetFile net) = IsSound net
-
-abbrev pub file_letters : File → Scope
-file_letters (NetFile net) = letters_of net
-
--- an automaton whose letters are the values of one variable: a file of parallel mode
-abbrev pub has_one_variable : File → Bool
-has_one_variable (NetFile net) = is_automaton net && (length net.inputs == 1)
 
 -- a problem as plain data: its files, and the scopes of its equation
 pub record Problem : Type 0 where

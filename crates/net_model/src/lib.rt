@@ -7,21 +7,24 @@
 mod automaton;
 mod class;
 mod directive;
+mod file;
 mod kiss_directive;
 mod letter;
 mod letter_signals;
 mod machine;
 mod name_list;
 mod net;
+mod outline;
 mod refusal;
 mod text_fault;
 
 pub use class::{Class, Mode};
 pub use directive::Directive;
+pub use file::File;
 pub use kiss_directive::KissDirective;
 pub use letter::{Letter, ValueSet, Word};
 pub use machine::{Bit, KissRow, Machine};
 pub use name_list::NameList;
-pub use net::{Entry, File, Latch, Net, Row, Table};
+pub use net::{Entry, Latch, Net, Row, Table};
 pub use refusal::{NameRefusal, Slot};
 pub use text_fault::{TextFault, TextKind, Which};

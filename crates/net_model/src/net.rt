@@ -52,9 +52,3 @@ pub struct Net {
     /// Tables that the first values of the latch outputs meet.
     pub resets: Vec<Table>,
 }
-
-/// What a file was read to.
-#[derive(Drop)]
-pub enum File {
-    Net(Net),
-}

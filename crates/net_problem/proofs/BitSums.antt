@@ -7,6 +7,7 @@ use Rattle.name_table.specs.CodeBits.{bits_of, bits_in}
 use Rattle.name_table.specs.ScopeVars.{variable_at}
 use Rattle.net_model.specs.Words.{Scope}
 use Rattle.net_model.specs.Nets.{Net}
+use Rattle.net_model.proofs.Counting.{range-suc}
 use Rattle.net_problem.specs.ProblemBits.{own_of, own_before}
 
 pub bits_in-append : (a b : Scope) → bits_in (a ++ b) ≡ bits_in a + bits_in b
@@ -21,12 +22,6 @@ bits-suc (v ∷ scope) (suc var) known = let rest = bits-suc scope var (omega (a
 -- those of the variables up to one
 pub bits-next : (scope : Scope) (var : ℕ) → var < length scope → bits_in (take (var + 1) scope) ≡ bits_in (take var scope) + bits_of (variable_at scope var)
 bits-next scope var known = rw add-one (bits-suc scope var known)
-
-pub range-suc : (n first : ℕ) → range_with_len first (suc n) ≡ range_with_len first n ++ ((first + n) ∷ [])
-range-suc zero first = let same : first ≡ first + 0 = omega arith in λ i. same i ∷ []
-range-suc (suc n) first =
-    let same : first + 1 + n ≡ first + suc n = omega arith in
-    ap (λ numbers. first ∷ numbers) (range-suc n (first + 1) ∙ ap (λ k. range_with_len (first + 1) n ++ k ∷ []) same)
 
 -- what a file has for itself for the signals up to one
 pub own-suc : (net : Net) (signal : ℕ) → own_before net (suc signal) ≡ own_before net signal ++ own_of net signal

@@ -7,3 +7,4 @@ pub mod Domains
 pub mod ScopesGood
 pub mod BitSums
 pub mod LetterSignals
+pub mod MachineBits

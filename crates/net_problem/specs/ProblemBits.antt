@@ -8,7 +8,8 @@ use Rattle.net_model.specs.Nets.{Net}
 use Rattle.net_model.specs.Conditions.{latch_outputs}
 use Rattle.net_model.specs.NetLanguages.{letter_signals}
 use Rattle.net_model.specs.Equation.{Topology}
-use Rattle.net_model.specs.Problems.{File, NetFile, Problem}
+use Rattle.net_model.specs.Outlines.{outline}
+use Rattle.net_model.specs.Problems.{File, Problem}
 use Rattle.net_model.specs.declared.class.Mode.{Mode}
 use Rattle.net_model.specs.declared.class.Mode.TheVariants.{Sync, Parallel}
 
@@ -26,9 +27,9 @@ own_before net signal = flat_map (own_of net) (range_with_len 0 signal)
 abbrev pub own_scope : Net → Scope
 own_scope net = own_before net (length net.names)
 
--- the bits that a file adds to those of the letters
+-- the bits that a file adds to those of the letters; a machine adds twice those of its state
 abbrev pub file_bits : File → ℕ
-file_bits (NetFile net) = bits_in (own_scope net)
+file_bits file = bits_in (own_scope (outline file))
 
 abbrev pub third_bits : Option File → ℕ
 third_bits None = 0

@@ -34,13 +34,15 @@ pub fn bits_of_variable(scope: &Scope, var: u32) -> u32
     code_bits(scope.domain(var).unwrap().len() as usize)
 }
 
-/// How many bits a file has for itself: twice those of each latch, and those of each other signal that is no letter.
+/// How many bits a file has for itself: twice those of each latch or of a machine's state, and those of each other signal
+/// that is no letter.
 pub fn bits_of_file(file: &File) -> u64
     ensures bits { result ≡ file_bits (file_of file.now) }
     ensures few { result ≤ 262144 }
 {
     match file {
         File::Net(net) => own_bits(net),
+        File::Machine(machine) => 2 * u64::from(code_bits(machine.states as usize)),
     }
 }
 

@@ -6,7 +6,7 @@ ghost use Rattle.name_table.specs.Variables.{names_of, are_different};
 ghost use Rattle.net_model.specs.NetLanguages.{letters_of};
 ghost use Rattle.net_model.specs.Nets.{net_of};
 ghost use Rattle.net_model.specs.Parts.{actions_of};
-ghost use Rattle.net_model.specs.SoundNets.{IsSound};
+ghost use Rattle.net_model.specs.Outlines.{IsWired};
 
 use name_table::{Names, ScopeVar, VarId};
 use net_model::Net;
@@ -14,7 +14,7 @@ use std::alloc::{AllocError, Global};
 
 /// The variables of the network's letters.
 pub fn letter_vars(alloc: Global, net: &Net) -> Result<Vec<ScopeVar>, AllocError>
-    requires { IsSound (net_of net.now) }
+    requires { IsWired (net_of net.now) }
     ensures vars { IfOk result (λ vars. variables_of vars.items ≡ letters_of (net_of net.now)) }
     ensures few { IfOk result (λ vars. vec_len vars ≤ 4096) }
     ensures different { IfOk result (λ vars. are_different (names_of (variables_of vars.items)) ≡ true) }

@@ -50,6 +50,7 @@ fn has_one_variable(file: &File) -> bool
 {
     match file {
         File::Net(net) => net.has_acc() && net.inputs.len() == 1,
+        File::Machine(_) => false,
     }
 }
 

@@ -1,9 +1,10 @@
 //! The scopes of a problem: the joint variables, and those of X.
 
-ghost use Rattle.std.specs.Prelude.{◌≡◌, ◌<◌, ◌≤◌, ◌++◌, None, true, length, IfOk, IfErr, OnOk};
+ghost use Rattle.std.specs.Prelude.{◌≡◌, ◌<◌, ◌≤◌, ◌++◌, None, true, length, vec_len, IfOk, IfErr, OnOk};
 ghost use Rattle.name_table.specs.ScopeVars.{variables_of};
 ghost use Rattle.name_table.specs.Variables.{names_of, are_different, IsScope};
 ghost use Rattle.net_problem.specs.Building.{known_in, joint_in, x_in, names_refusal};
+ghost use Rattle.net_model.specs.Machines.{machine_of, machine_letters, IsSoundMachine};
 ghost use Rattle.net_model.specs.Parts.{actions_of};
 ghost use Rattle.net_model.specs.Problems.{file_of, file_letters, file_refusal, IsSoundFile, IsRefusal};
 
@@ -12,7 +13,7 @@ use crate::letter_vars::letter_vars;
 use crate::name_faults::{check_files, check_names};
 use crate::x_vars::x_vars;
 use name_table::{Scope, ScopeVar};
-use net_model::{File, Mode, NameList, NameRefusal};
+use net_model::{File, Machine, Mode, NameList, NameRefusal};
 use std::alloc::{AllocError, Global};
 
 /// The joint variables of two files that suit the mode.
@@ -47,7 +48,20 @@ fn file_vars(alloc: Global, file: &File) -> Result<Vec<ScopeVar>, AllocError>
 {
     match file {
         File::Net(net) => letter_vars(alloc, net),
+        File::Machine(machine) => column_vars(alloc, machine),
     }
+}
+
+// The variables of a machine's columns.
+fn column_vars(alloc: Global, machine: &Machine) -> Result<Vec<ScopeVar>, AllocError>
+    requires { IsSoundMachine (machine_of machine.now) }
+    ensures vars { IfOk result (λ vars. variables_of vars.items ≡ machine_letters (machine_of machine.now)) }
+    ensures few { IfOk result (λ vars. vec_len vars ≤ 4096) }
+    ensures different { IfOk result (λ vars. are_different (names_of (variables_of vars.items)) ≡ true) }
+    ensures few_actions { IfOk result (λ vars. length (actions_of (variables_of vars.items)) ≤ 65536) }
+{
+    let outline = machine.outline(alloc)?;
+    letter_vars(alloc, &outline)
 }
 
 /// The variables of an X with these names, where these are the joint variables.

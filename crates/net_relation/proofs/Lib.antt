@@ -8,3 +8,4 @@ pub mod PlacedNet
 pub mod Related
 pub mod StateSets
 pub mod OneTable
+pub mod MachineSpots

@@ -1,16 +1,17 @@
 -- What a sound network and its spots give to the calls that make its parts.
 use Rattle.std.proofs.Common.{◌≡◌, ◌∙◌, ◌+◌, ◌<◌, ℕ, zero, suc, List, [], ◌∷◌, ◌++◌, length, map, get_or, refl, sym, ap, arith, subst}
 use Rattle.std.specs.Prelude.{All}
-use Rattle.std.proofs.lemmas.List.{length-map, get_or-map}
+use Rattle.std.proofs.lemmas.List.{length-map, get_or-map, get_or_default}
 use Rattle.std.proofs.lemmas.List.Elements.{All-map}
 use Rattle.name_table.specs.CodeBits.{bits_in, code_bits}
 use Rattle.name_table.specs.ScopeVars.{variable_at, chosen_of}
 use Rattle.net_model.specs.Words.{Variable, Scope}
 use Rattle.net_model.specs.Nets.{Table, Latch, Net}
 use Rattle.net_model.specs.Conditions.{latch_outputs, columns_of, IsAutomaton}
-use Rattle.net_model.specs.NetLanguages.{letter_signals, states_of}
+use Rattle.net_model.specs.NetLanguages.{letter_signals, letters_of, states_of}
 use Rattle.net_model.specs.SoundNets.{IsSound, IsTableOf}
-use Rattle.net_model.proofs.Letters.{letters_known}
+use Rattle.net_model.specs.Outlines.{IsWired}
+use Rattle.net_model.proofs.Letters.{letters_known, wired_of}
 use Rattle.node_table.specs.Table.{Table as Nodes}
 use Rattle.mv_encoding.specs.Layouts.{Layout, IsLaid}
 use Rattle.mv_encoding.specs.Spots.{IsSpot, AreSpots, AreLaid, variables_at, spot_at, spots_at}
@@ -30,6 +31,10 @@ scope-at (spot ∷ spots) (v ∷ vars) are (suc k) within = scope-at spots vars 
     behind [] = []
     behind (x ∷ xs) = xs
 
+-- a spot that was looked up
+pub spot-is : (signals spots : List Layout) → signals ≡ spots → (signal : ℕ) (spot : Layout) → signal < length spots → spot ≡ get_or signals signal spot → spot ≡ spot_at spots signal
+spot-is signals spots same signal spot known is = is ∙ ap (λ l. get_or l signal spot) same ∙ get_or_default spots signal spot nowhere known
+
 -- as many spots as variables
 pub spots-long : (spots : List Layout) (vars : Scope) → map (λ spot. spot.scope) spots ≡ map (λ v. v ∷ []) vars → length spots ≡ length vars
 spots-long spots vars are = sym (length-map spots (λ spot. spot.scope)) ∙ ap length are ∙ length-map vars (λ v. v ∷ [])
@@ -48,6 +53,16 @@ left-laid t (x ∷ xs) ys laid (suc k) d within = left-laid t xs ys (tail (λ s.
 right-laid : (t : Nodes) (xs ys : List Layout) → AreLaid t (xs ++ ys) → AreLaid t ys
 right-laid t [] ys laid = laid
 right-laid t (x ∷ xs) ys laid = right-laid t xs ys (tail (λ s. IsLaid s t) x (xs ++ ys) laid)
+
+-- the variables of some spots
+chosen-variables : (spots : List Layout) (names : Scope) → map (λ spot. spot.scope) spots ≡ map (λ v. v ∷ []) names → (signals : List ℕ) → All (λ s. s < length names) signals → variables_at (spots_at spots signals) ≡ chosen_of names signals
+chosen-variables spots names are [] known = refl
+chosen-variables spots names are (s ∷ signals) known =
+    let within = head (λ s. s < length names) s signals known in
+    let long = spots-long spots names are in
+    let here : variable_at (spot_at spots s).scope 0 ≡ variable_at names s = ap (λ (scope : Scope). variable_at scope 0) (scope-at spots names are s (omega (arith, within, long))) in
+    let rest = chosen-variables spots names are signals (tail (λ s. s < length names) s signals known) in
+    λ i. here i ∷ rest i
 
 -- what holds of spots holds of some of them
 pub chosen-all : (P : Layout → Type 0) (spots : List Layout) → All P spots → (signals : List ℕ) → All (λ s. s < length spots) signals → All P (spots_at spots signals)
@@ -88,6 +103,25 @@ of-three {A} {B} {C} P {a} {b} {c} {d} {x} {y} e f g is = let Q : A → Type 0 =
 pub of-four : {A B C D : Type 0} (P : A → B → C → D → Type 0) {a b : A} {c d : B} {x y : C} {u v : D} → a ≡ b → c ≡ d → x ≡ y → u ≡ v → P b d y v → P a c x u
 of-four {A} {B} {C} {D} P {a} {b} {c} {d} {x} {y} {u} {v} e f g h is = let Q : A → Type 0 = λ z. P z c x u in subst Q (sym e) (of-three (P b) f g h is)
 
+-- where each signal is driven once, the letters have codes
+module _ (t : Nodes) (net : Net) (spots : FileSpots) (wired : IsWired net) (placed : IsPlaced t net spots) where
+  wired-known : All (λ s. s < length spots.signals) (letter_signals net)
+  wired-known =
+      let P : ℕ → Type 0 = λ n. All (λ s. s < n) (letter_signals net) in
+      subst P (sym (spots-long spots.signals net.names placed.signals)) (letters_known net wired)
+
+  pub wired-laid : AreLaid t spots.letters
+  wired-laid =
+      let P : List Layout → Type 0 = λ l. AreLaid t l in
+      subst P (sym placed.letters) (chosen-all (λ s. IsLaid s t) spots.signals placed.signals_laid (letter_signals net) wired-known)
+
+  pub wired-are : AreSpots spots.letters
+  wired-are = subst AreSpots (sym placed.letters) (chosen-all IsSpot spots.signals (spots-of spots.signals net.names placed.signals).0 (letter_signals net) wired-known)
+
+  -- and they are those of the letters
+  pub wired-variables : variables_at spots.letters ≡ letters_of net
+  wired-variables = ap variables_at placed.letters ∙ chosen-variables spots.signals net.names placed.signals (letter_signals net) (letters_known net wired)
+
 module _ (t : Nodes) (net : Net) (spots : FileSpots) (sound : IsSound net) (placed : IsPlaced t net spots) where
   pub signals-are : AreSpots spots.signals
   signals-are = (spots-of spots.signals net.names placed.signals).0
@@ -114,7 +148,7 @@ module _ (t : Nodes) (net : Net) (spots : FileSpots) (sound : IsSound net) (plac
   resets-over k d within = over (get_or net.resets k d) (sound.known.resets k d within) (sound.resets k d within)
 
   pub letters-known : All (λ s. s < length spots.signals) (letter_signals net)
-  letters-known = known-spots (letter_signals net) (letters_known net sound)
+  letters-known = wired-known t net spots (wired_of net sound) placed
 
   -- the only output of an automaton
   pub acc-known : (signal : ℕ) → IsAutomaton net signal → signal < length spots.signals
@@ -124,12 +158,10 @@ module _ (t : Nodes) (net : Net) (spots : FileSpots) (sound : IsSound net) (plac
       omega (arith, known, signals-long)
 
   pub letters-laid : AreLaid t spots.letters
-  letters-laid =
-      let P : List Layout → Type 0 = λ l. AreLaid t l in
-      subst P (sym placed.letters) (chosen-all (λ s. IsLaid s t) spots.signals placed.signals_laid (letter_signals net) letters-known)
+  letters-laid = wired-laid t net spots (wired_of net sound) placed
 
   pub letters-are : AreSpots spots.letters
-  letters-are = subst AreSpots (sym placed.letters) (chosen-all IsSpot spots.signals signals-are (letter_signals net) letters-known)
+  letters-are = wired-are t net spots (wired_of net sound) placed
 
   states-long : length (states_of net) ≡ length net.latches
   states-long = length-map (latch_outputs net) (variable_at net.names) ∙ length-map net.latches (λ latch. latch.output)

@@ -1,4 +1,4 @@
--- The relation of a network, part by part.
+-- The relation of a network or a machine, part by part.
 use Rattle.std.specs.Prelude.{◌≡◌, ◌==◌, ◌<◌, ◌&&◌, ℕ, Bool, true, List, [], ◌∷◌, ◌++◌, length, map, slice_index_or, All}
 use Rattle.name_table.specs.CodeBits.{bits_in}
 use Rattle.node_table.specs.Table.{Bits, Table}
@@ -10,7 +10,9 @@ use Rattle.table_parts.specs.TableParts.{part_value}
 use Rattle.net_model.specs.Words.{Letter}
 use Rattle.net_model.specs.Nets.{Latch, Net}
 use Rattle.net_model.specs.NetLanguages.{IsInitial, Steps, IsAccepting}
-use Rattle.net_model.specs.Problems.{File, NetFile}
+use Rattle.net_model.specs.Machines.{Machine, MachineSteps}
+use Rattle.net_model.specs.Problems.{File, NetFile, MachineFile}
+use Rattle.machine_parts.specs.MachineParts.{machine_value}
 use Rattle.net_frame.specs.Placing.{FileSpots}
 
 -- what the bits spell of a step of the network
@@ -92,13 +94,28 @@ pub record AreLatchesAt (t : Table) (signals : List Layout) (latches : List Latc
 -- the parts of a file's relation
 abbrev pub file_meanings : File → FileSpots → List (Bits → Bool)
 file_meanings (NetFile net) spots = part_meanings net spots
+file_meanings (MachineFile machine) spots = machine_value spots.letters (spot_at spots.present 0) (spot_at spots.next 0) machine ∷ []
+
+-- a step of a machine from the state that a number is to the state that a number is
+pub record MovesOf (machine : Machine) (q : List ℕ) (a : Letter) (r : List ℕ) : Type 0 where
+  pub from : ℕ
+  pub to : ℕ
+  pub from_is : q ≡ from ∷ []
+  pub to_is : r ≡ to ∷ []
+  pub step : MachineSteps machine from a to
+
+abbrev pub StepsOf : File → List ℕ → Letter → List ℕ → Type 0
+StepsOf (NetFile net) = Steps net
+StepsOf (MachineFile machine) = MovesOf machine
 
 -- the parts stand for the steps of the file
 abbrev pub StandsForFileSteps : Table → List ℕ → FileSpots → File → Type 0
-StandsForFileSteps t parts spots (NetFile net) = StandsForSteps t parts (step_code spots) (Steps net)
+StandsForFileSteps t parts spots file = StandsForSteps t parts (step_code spots) (StepsOf file)
 
 abbrev pub IsInitialOf : File → List ℕ → Type 0
 IsInitialOf (NetFile net) = IsInitial net
+IsInitialOf (MachineFile machine) = λ q. q ≡ machine.reset ∷ []
 
 abbrev pub IsAcceptingOf : File → List ℕ → Type 0
 IsAcceptingOf (NetFile net) = IsAccepting net
+IsAcceptingOf (MachineFile machine) = λ q. Unit {0}

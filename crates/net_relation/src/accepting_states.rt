@@ -2,7 +2,7 @@
 
 ghost use Rattle.std.specs.Prelude.{◌≡◌, ◌<◌, ◌∷◌, [], length, map, Contains, IfOk, IfErr, IfSome, IfNone};
 ghost use Rattle.node_table.specs.Table.{Grows};
-ghost use Rattle.mv_encoding.specs.Spots.{StandsForValues};
+ghost use Rattle.mv_encoding.specs.Spots.{AreSpots, AreLaid, StandsForValues};
 ghost use Rattle.net_model.specs.Nets.{table_of, net_of};
 ghost use Rattle.net_model.specs.Accepted.{is_only};
 ghost use Rattle.net_model.specs.Conditions.{IsAutomaton};
@@ -46,6 +46,7 @@ pub fn accepting(
 {
     match file {
         File::Net(net) => accepting_of_net(space, frame, slot, net),
+        File::Machine(_) => all_states(space, frame, slot),
     }
 }
 
@@ -64,13 +65,14 @@ fn accepting_of_net(
 {
     match accepting_signal(net) {
         Some(signal) => accepting_by(space, frame, slot, net, signal),
-        None => all_states(space, frame, slot, net),
+        None => all_states(space, frame, slot),
     }
 }
 
-// All states of a network.
-fn all_states(space: &mut Space, frame: &Frame, slot: Slot, net: &Net) -> Result<Ref, SolveFault>
-    requires placed { IsPlaced space.old (net_of net.now) (spots_in frame.now slot) }
+// All states of a file.
+fn all_states(space: &mut Space, frame: &Frame, slot: Slot) -> Result<Ref, SolveFault>
+    requires spots { AreSpots (spots_in frame.now slot).present }
+    requires laid { AreLaid space.old (spots_in frame.now slot).present }
     ensures states { IfOk result (λ r. StandsForValues space.new (spots_in frame.now slot).present r (λ q. Unit {0})) }
     ensures grows { Grows space.old space.new }
     ensures levels { space.new.levels ≡ space.old.levels }

@@ -18,6 +18,7 @@ ghost use Rattle.net_relation.specs.States.{constant_tables, initial_meanings};
 
 use crate::adding::{add_table, add_tables};
 use crate::latches::add_present;
+use crate::machines::initial_of_machine;
 use crate::projecting::project;
 use det_core::SolveFault;
 use mv_encoding::Coding;
@@ -41,6 +42,7 @@ pub fn initial(space: &mut Space, frame: &Frame, slot: Slot, file: &File) -> Res
 {
     match file {
         File::Net(net) => initial_of_net(space, frame, slot, net),
+        File::Machine(machine) => initial_of_machine(space, frame, slot, machine),
     }
 }
 

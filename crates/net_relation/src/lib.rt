@@ -5,6 +5,7 @@ mod accepting_states;
 mod adding;
 mod initial_states;
 mod latches;
+mod machines;
 mod projecting;
 mod relation;
 

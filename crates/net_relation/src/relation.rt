@@ -14,6 +14,7 @@ ghost use Rattle.net_relation.specs.Relations.{AreFor, part_meanings, step_code,
 
 use crate::adding::{add, add_tables};
 use crate::latches::add_latches;
+use crate::machines::parts_of_machine;
 use det_core::SolveFault;
 use mv_encoding::all_values;
 use net_frame::Frame;
@@ -25,7 +26,8 @@ use part_relation::Parts;
 /// the order of the network, then one for each latch, and at last the set of its letters. No level is hidden. A part before
 /// the last is 1 only at codes of values, and there exactly where its table or latch holds: a latch where its next value is
 /// that of its input, and its present value that of its output, which may be a letter. A table's part is made from halves of
-/// its rows, so in a time that grows about as their number. The limit on nodes is told after no states.
+/// its rows, so in a time that grows about as their number. A machine has one part, from all its rows, which is 1 only at codes
+/// of values. The limit on nodes is told after no states.
 pub fn relation_of(
     space: &mut Space,
     frame: &Frame,
@@ -43,6 +45,7 @@ pub fn relation_of(
 {
     match file {
         File::Net(net) => parts_of_net(space, frame, slot, net),
+        File::Machine(machine) => parts_of_machine(space, frame, slot, machine),
     }
 }
 

@@ -3,10 +3,12 @@ use Rattle.net_model.specs.Words.{Word}
 use Rattle.net_model.specs.Listings.{Listing, ListingWords}
 use Rattle.net_model.specs.Nets.{Net}
 use Rattle.net_model.specs.NetTexts.{StandsForNet}
-use Rattle.net_model.specs.NetLanguages.{NetWords, Means, StandsForAutomaton}
+use Rattle.net_model.specs.NetLanguages.{NetWords, StandsForAutomaton}
+use Rattle.net_model.specs.Files.{File, NetFile, MachineFile, StandsForFile, FileWords, Means}
 use Rattle.net_model.specs.Written.{IsTextName}
 use Rattle.net_model.specs.Printed.{IsPrintable, printed_text}
 use Rattle.net_model.proofs.OneNet.{one_net}
+use Rattle.net_model.proofs.OneFile.{no_machine}
 use Rattle.printed_nets.specs.PrintedNets.{acc_place, printed_net}
 use Rattle.printed_nets.proofs.Conditioned.{meets_conditions}
 use Rattle.printed_nets.proofs.Runs.{is_acc_signal, letters_are, same_words}
@@ -29,6 +31,10 @@ pub printed_means : (name : List ℕ) (auto : Listing) → IsTextName name → I
 printed_means name auto text printable word =
     let stands = printed_stands name auto text printable in
     let words = same_words auto printable word in (
-      λ means. words.0 (subst (λ (net : Net). NetWords net word) (one_net (printed_text name auto) means.0 (printed_net auto) means.1 stands) means.3),
-      λ in'. (printed_net auto, stands, letters_are auto, words.1 in'),
+      λ (file, of_file, letters, in_file). words.0 (net_words stands file of_file in_file),
+      λ in'. (NetFile (printed_net auto), stands, letters_are auto, words.1 in'),
     )
+  where
+    net_words : StandsForNet (printed_text name auto) (printed_net auto) → (file : File) → StandsForFile (printed_text name auto) file → FileWords file word → NetWords (printed_net auto) word
+    net_words stands (NetFile net) of_net in_net = subst (λ (n : Net). NetWords n word) (one_net (printed_text name auto) net (printed_net auto) of_net stands) in_net
+    net_words stands (MachineFile machine) of_machine in_machine = absurd (no_machine (printed_text name auto) (printed_net auto) machine stands of_machine)

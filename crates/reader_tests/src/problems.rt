@@ -69,6 +69,7 @@ fn put_file(out: &mut Vec<u8>, file: &File) -> Result<(), AllocError> {
             },
             net,
         ),
+        File::Machine(_) => put(out, "machine"),
     }
 }
 

@@ -2,20 +2,24 @@ use Rattle.std.proofs.Common.{◌≡◌, ◌<◌, ◌≤◌, ◌⊎◌, ℕ, zer
 use Rattle.std.specs.Prelude.{nat_eq, All}
 use Rattle.std.specs.List.{AllByRecursion, list_any}
 use Rattle.std.specs.Str.{bytes_eq}
+use Rattle.std.specs.Fmt.{digits}
 use Rattle.std.proofs.lemmas.Bool.{false≢true, or_cases}
 use Rattle.std.proofs.lemmas.Slice.Eq.{bytes_eq-Decides}
-use Rattle.name_table.specs.Variables.{names_of, is_in, are_different}
+use Rattle.name_table.specs.Variables.{names_of, is_in, are_different, numbers}
+use Rattle.name_table.proofs.Apart.{IsDomain-numbers}
+use Rattle.name_table.proofs.Numbered.{length_numbers}
 use Rattle.name_table.specs.ScopeVars.{variable_at, chosen_of}
 use Rattle.net_model.specs.Words.{Variable, Scope}
 use Rattle.net_model.specs.Nets.{Net}
 use Rattle.net_model.specs.NetLanguages.{is_automaton, other_outputs, letter_signals, letters_of}
 use Rattle.net_model.specs.SoundNets.{IsSound}
-use Rattle.net_model.specs.Written.{IsTextVariable}
+use Rattle.net_model.specs.Written.{IsTextValue, IsTextVariable}
+use Rattle.net_model.specs.Machines.{IsColumn}
 use Rattle.net_model.specs.Equation.{Topology}
 use Rattle.net_model.specs.Printed.{IsPrintedVariable}
 use Rattle.net_model.specs.Topologies.{is_named, variable_named, joint_scope, topology_by}
 use Rattle.aut_format.specs.Rows.{HaveTextNames}
-use Rattle.net_model.specs.Problems.{File, NetFile, Problem, IsBuilt, IsSoundFile, file_letters, NameRefusal, UnknownName, RepeatedName, InBoth, ReservedName, or_else, refused_if, name_refusal, list_refusal, first_refusal, file_refusal, is_reserved}
+use Rattle.net_model.specs.Problems.{File, NetFile, MachineFile, Problem, IsBuilt, IsSoundFile, file_letters, NameRefusal, UnknownName, RepeatedName, InBoth, ReservedName, or_else, refused_if, name_refusal, list_refusal, first_refusal, file_refusal, is_reserved}
 use Rattle.net_model.specs.declared.class.Mode.{Mode}
 use Rattle.net_model.specs.declared.class.Mode.TheVariants.{Sync, Parallel}
 use Rattle.net_problem.specs.Building.{names_refusal}
@@ -83,12 +87,12 @@ all_append known [] ys h k = k
 all_append known (x ∷ xs) ys h k = (h.0, all_append known xs ys h.1 k)
 
 -- the names of a problem
-pub good_names : (f s : Net) (ins outs : List (List ℕ)) → first_refusal Sync (NetFile f) (NetFile s) ins outs ≡ None → AllByRecursion (IsGoodName (names_of (joint_scope (letters_of f) (letters_of s)))) (ins ++ outs)
+pub good_names : (f s : File) (ins outs : List (List ℕ)) → first_refusal Sync f s ins outs ≡ None → AllByRecursion (IsGoodName (names_of (joint_scope (file_letters f) (file_letters s)))) (ins ++ outs)
 good_names f s ins outs none =
-    let known = names_of (joint_scope (letters_of f) (letters_of s)) in
+    let known = names_of (joint_scope (file_letters f) (file_letters s)) in
     let first = list_refusal Sync known [] [] ins in
     let second = list_refusal Sync known [] ins outs in
-    let lists = (neither (file_refusal Sync (NetFile f) (NetFile s)) (or_else first second) none).1 in
+    let lists = (neither (file_refusal Sync f s) (or_else first second) none).1 in
     let parts = neither first second lists in
     all_append known ins outs (good_list known [] [] ins parts.0) (good_list known [] ins outs parts.1)
 
@@ -129,7 +133,7 @@ pub free_names : (known names : List (List ℕ)) → AllByRecursion (IsGoodName 
 free_names known [] good = tt
 free_names known (name ∷ names) good = (good.0.free, free_names known names good.1)
 
--- the joint variables of sound networks
+-- the joint variables of sound files
 
 at_place : (P : Variable → Type 0) (vars : Scope) (k : ℕ) → AllByRecursion P vars → k < length vars → P (variable_at vars k)
 at_place P [] k all below = absurd (omega arith)
@@ -174,10 +178,36 @@ letters_text net sound =
     elim (is_automaton net) as (λ b. AllByRecursion (IsKnownIn net) (cond b net.inputs (net.inputs ++ other_outputs net))) [ true ↦ inputs | false ↦ both ] in
     chosen_all IsFileVariable net.names (letter_signals net) (both_all net.names sound.names sound.known.names.small) signals
 
-joint_text : (f s : Net) → IsSound f → IsSound s → AllByRecursion IsFileVariable (joint_scope (letters_of f) (letters_of s))
+-- the columns of a machine
+
+digits_text : AllByRecursion IsTextValue (numbers 2)
+unfolding digits
+digits_text = (record { word = refl; name_is = refl }, (record { word = refl; name_is = refl }, tt))
+
+column_text : (v : Variable) → IsColumn v → IsFileVariable v
+column_text v is =
+    let size = ap length is.values ∙ length_numbers 2 in (
+      record {
+        name = is.name;
+        values = subst (AllByRecursion IsTextValue) (sym is.values) digits_text;
+        some = omega (arith, size);
+        different = ap are_different is.values ∙ (IsDomain-numbers 2 (omega arith) (omega arith)).different;
+      },
+      omega (arith, size),
+    )
+
+columns_text : (columns : Scope) → AllByRecursion IsColumn columns → AllByRecursion IsFileVariable columns
+columns_text [] each = tt
+columns_text (v ∷ columns) each = (column_text v each.0, columns_text columns each.1)
+
+file_text : (file : File) → IsSoundFile file → AllByRecursion IsFileVariable (file_letters file)
+file_text (NetFile net) sound = letters_text net sound
+file_text (MachineFile machine) sound = joined_all IsFileVariable machine.inputs machine.outputs (columns_text machine.inputs sound.inputs.each) (columns_text machine.outputs sound.outputs.each)
+
+joint_text : (f s : File) → IsSoundFile f → IsSoundFile s → AllByRecursion IsFileVariable (joint_scope (file_letters f) (file_letters s))
 joint_text f s f_sound s_sound =
-    joined_all IsFileVariable (letters_of f) _ (letters_text f f_sound)
-    (kept_all IsFileVariable (λ (v : Variable). not (is_named (letters_of f) v.name)) (letters_of s) (letters_text s s_sound))
+    joined_all IsFileVariable (file_letters f) _ (file_text f f_sound)
+    (kept_all IsFileVariable (λ (v : Variable). not (is_named (file_letters f) v.name)) (file_letters s) (file_text s s_sound))
 
 -- variables of a text with free names are variables of printed automata
 printed_variables : (vars : Scope) → AllByRecursion IsFileVariable vars → AllByRecursion IsFreeName (names_of vars) → AllByRecursion IsPrintedVariable vars
@@ -194,11 +224,11 @@ printed_variables (v ∷ vars) file free = (
 )
 
 -- X's variables
-x_names : (f s : Net) (ins outs : List (List ℕ)) → IsSound f → IsSound s → first_refusal Sync (NetFile f) (NetFile s) ins outs ≡ None → HaveTextNames (map (variable_named (joint_scope (letters_of f) (letters_of s))) (ins ++ outs))
+x_names : (f s : File) (ins outs : List (List ℕ)) → IsSoundFile f → IsSoundFile s → first_refusal Sync f s ins outs ≡ None → HaveTextNames (map (variable_named (joint_scope (file_letters f) (file_letters s))) (ins ++ outs))
 x_names f s ins outs f_sound s_sound none =
-    let joint = joint_scope (letters_of f) (letters_of s) in
+    let joint = joint_scope (file_letters f) (file_letters s) in
     let good = good_names f s ins outs none in
-    let lists = (neither (file_refusal Sync (NetFile f) (NetFile s)) (names_refusal Sync (names_of joint) ins outs) none).1 in
+    let lists = (neither (file_refusal Sync f s) (names_refusal Sync (names_of joint) ins outs) none).1 in
     record {
       vars = printed_variables (map (variable_named joint) (ins ++ outs)) (variables_found IsFileVariable joint (ins ++ outs) (joint_text f s f_sound s_sound) good)
           (subst (AllByRecursion IsFreeName) (sym (names_found joint (ins ++ outs))) (free_names (names_of joint) (ins ++ outs) good));
@@ -206,7 +236,7 @@ x_names f s ins outs f_sound s_sound none =
     }
 
 names_by : (mode : Mode) (f s : File) (ins outs : List (List ℕ)) → mode ≡ Sync → IsSoundFile f → IsSoundFile s → first_refusal mode f s ins outs ≡ None → HaveTextNames (topology_by mode (file_letters f) (file_letters s) ins outs).x
-names_by Sync (NetFile f) (NetFile s) ins outs sync f_sound s_sound none = x_names f s ins outs f_sound s_sound none
+names_by Sync f s ins outs sync f_sound s_sound none = x_names f s ins outs f_sound s_sound none
 names_by Parallel f s ins outs sync f_sound s_sound none = cc
 
 pub problem_names : (problem : Problem) → IsBuilt problem → problem.topology.mode ≡ Sync → HaveTextNames problem.topology.x

@@ -4,7 +4,8 @@ use Rattle.node_table.specs.Table.{Bits, Table}
 use Rattle.mv_encoding.specs.Layouts.{Layout, numbers_of, levels_of}
 use Rattle.net_model.specs.Words.{Scope, Word, Language}
 use Rattle.net_model.specs.Equation.{IsSafe}
-use Rattle.net_model.specs.NetLanguages.{Means, StandsForAutomaton}
+use Rattle.net_model.specs.NetLanguages.{StandsForAutomaton}
+use Rattle.net_model.specs.Files.{Means}
 use Rattle.net_model.specs.Problems.{Problem, IsBuilt}
 use Rattle.net_model.specs.Printed.{printed_text}
 use Rattle.net_model.specs.declared.class.Mode.TheVariants.{Sync}

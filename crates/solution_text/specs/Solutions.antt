@@ -2,7 +2,8 @@
 use Rattle.std.specs.Prelude.{◌↔◌, MatchBool}
 use Rattle.net_model.specs.Words.{Word, Language}
 use Rattle.net_model.specs.Equation.{IsSafe}
-use Rattle.net_model.specs.NetLanguages.{Means, StandsForAutomaton}
+use Rattle.net_model.specs.NetLanguages.{StandsForAutomaton}
+use Rattle.net_model.specs.Files.{Means}
 use Rattle.net_model.specs.Problems.{Problem}
 use Rattle.sync_solve.specs.Files.{FileWords}
 use Rattle.solution_text.specs.declared.solution.Solution.{Solution}

@@ -13,7 +13,7 @@ use Rattle.std.proofs.lemmas.List.Elements.{All-tail, All-append}
 use Rattle.std.proofs.lemmas.List.Folds.{list_all-append}
 use Rattle.mv_encoding.proofs.Ranges.{range-in}
 use Rattle.part_relation.specs.Plans.{all_hold, AreValid}
-use Rattle.net_model.specs.Problems.{File, NetFile}
+use Rattle.net_model.specs.Problems.{File}
 use Rattle.net_frame.specs.Placing.{FileSpots}
 use Rattle.net_frame.specs.Frames.{Frame}
 use Rattle.net_relation.proofs.Written.{each-level}
@@ -41,7 +41,7 @@ use Rattle.sync_solve.proofs.Orders.{behind-file, behind-both, order-of}
 -- the diagrams of a file
 
 pub held-later : (a b : Table) → Grows a b → (file : File) (spots : FileSpots) (m : Machine) → AreDiagrams a file spots m.parts m.init m.acc → AreHeld b m
-held-later a b grow (NetFile net) spots m are = record {
+held-later a b grow file spots m are = record {
   parts = λ k d within. valid-grows a b grow (get_or m.parts k d) (are.steps.valid k d within);
   init = valid-grows a b grow m.init are.initial.valid;
   acc = valid-grows a b grow m.acc are.accepting.valid;
@@ -69,7 +69,7 @@ laid-low t spots laid = each-level (λ k. k < t.levels) spots (λ i d within k m
 
 module _ (t : Table) (spots : FileSpots) (parts : List ℕ) (init acc : ℕ) where
   file-low : (file : File) → AreDiagrams t file spots parts init acc → (k : ℕ) → is_in (file_levels spots) k ≡ true → k < t.levels
-  file-low (NetFile net) are k member = elim (in-either (all_levels spots.signals) (all_levels spots.present ++ all_levels spots.next) k member) [
+  file-low file are k member = elim (in-either (all_levels spots.signals) (all_levels spots.present ++ all_levels spots.next) k member) [
     | inl there ↦ laid-low t spots.signals are.placed.signals_laid k there
     | inr states ↦ elim (in-either (all_levels spots.present) (all_levels spots.next) k states) [
       | inl there ↦ laid-low t spots.present (left-laid t spots.present spots.next are.placed.states_laid) k there
@@ -78,20 +78,20 @@ module _ (t : Table) (spots : FileSpots) (parts : List ℕ) (init acc : ℕ) whe
   ]
 
   file-now : (file : File) → AreDiagrams t file spots parts init acc → (k : ℕ) → is_in (present_of spots.back) k ≡ true → is_in (file_levels spots) k ≡ true
-  file-now (NetFile net) are k member =
+  file-now file are k member =
       in-right (all_levels spots.signals) (all_levels spots.present ++ all_levels spots.next) k
       (in-left (all_levels spots.present) (all_levels spots.next) k (sym (are.placed.targets_are k) ∙ member))
 
   file-next : (file : File) → AreDiagrams t file spots parts init acc → (k : ℕ) → is_in (sources spots.back) k ≡ true → is_in (file_levels spots) k ≡ true
-  file-next (NetFile net) are k member =
+  file-next file are k member =
       in-right (all_levels spots.signals) (all_levels spots.present ++ all_levels spots.next) k
       (in-right (all_levels spots.present) (all_levels spots.next) k (sym (are.placed.sources_are k) ∙ member))
 
   file-init : (file : File) → AreDiagrams t file spots parts init acc → (u v : Bits) → SameAt (present_of spots.back) u v → value_at t init u ≡ value_at t init v
-  file-init (NetFile net) are u v same = are.initial.depends u v (λ k member. same k (are.placed.targets_are k ∙ member))
+  file-init file are u v same = are.initial.depends u v (λ k member. same k (are.placed.targets_are k ∙ member))
 
   file-acc : (file : File) → AreDiagrams t file spots parts init acc → (u v : Bits) → SameAt (present_of spots.back) u v → value_at t acc u ≡ value_at t acc v
-  file-acc (NetFile net) are u v same = are.accepting.depends u v (λ k member. same k (are.placed.targets_are k ∙ member))
+  file-acc file are u v same = are.accepting.depends u v (λ k member. same k (are.placed.targets_are k ∙ member))
 
   -- of its levels those above its states are its letters
   file-letter : (start : ℕ) → levels.LiesAround t start spots → (k : ℕ) → k < start → is_in (file_levels spots) k ≡ true → is_in (all_levels spots.letters) k ≡ true

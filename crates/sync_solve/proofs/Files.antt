@@ -17,11 +17,14 @@ use Rattle.net_model.specs.Tables.{values_at}
 use Rattle.net_model.specs.Nets.{Net}
 use Rattle.net_model.specs.NetLanguages.{letter_signals, letters_of, Steps, IsAccepting}
 use Rattle.net_model.specs.SoundNets.{IsSound}
-use Rattle.net_model.specs.Problems.{File, NetFile, IsSoundFile, file_letters}
-use Rattle.net_model.proofs.Letters.{letters_known}
+use Rattle.net_model.specs.Machines.{Machine, MachineSteps, machine_letters}
+use Rattle.net_model.specs.Outlines.{outline}
+use Rattle.net_model.specs.Problems.{File, NetFile, MachineFile, IsSoundFile, file_letters}
+use Rattle.net_model.proofs.Outlined.{file-wired}
+use Rattle.net_model.proofs.Letters.{letters_known, wired_of}
 use Rattle.net_frame.specs.Placing.{FileSpots}
 use Rattle.net_frame.specs.Frames.{IsFilePlaced}
-use Rattle.net_relation.specs.Relations.{file_meanings, StandsForFileSteps, IsInitialOf, IsAcceptingOf, step_code}
+use Rattle.net_relation.specs.Relations.{file_meanings, StandsForFileSteps, StepsOf, IsInitialOf, IsAcceptingOf, step_code}
 use Rattle.net_relation.proofs.Added.{are-grow}
 use Rattle.net_relation.proofs.PlacedNet as placed-net
 use Rattle.net_relation.proofs.PlacedNet.{placed-later}
@@ -45,7 +48,7 @@ steps-grow a b grow parts code Step is = record {
 }
 
 pub file-steps-grow : (a b : Table) → Grows a b → (parts : List ℕ) (spots : FileSpots) (file : File) → StandsForFileSteps a parts spots file → StandsForFileSteps b parts spots file
-file-steps-grow a b grow parts spots (NetFile net) is = steps-grow a b grow parts (step_code spots) (Steps net) is
+file-steps-grow a b grow parts spots file is = steps-grow a b grow parts (step_code spots) (StepsOf file) is
 
 pub values-grow : (a b : Table) → Grows a b → (spots : List Layout) (r : ℕ) (Member : List ℕ → Type 0) → StandsForValues a spots r Member → StandsForValues b spots r Member
 values-grow a b grow spots r Member is = record {
@@ -56,7 +59,7 @@ values-grow a b grow spots r Member is = record {
 }
 
 pub file-placed-later : (s t : Table) → t.levels ≡ s.levels → (file : File) (spots : FileSpots) → IsFilePlaced s file spots → IsFilePlaced t file spots
-file-placed-later s t levels (NetFile net) spots placed = placed-later s t net spots levels placed
+file-placed-later s t levels file spots placed = placed-later s t (outline file) spots levels placed
 
 pub diagrams-grow : (a b : Table) → Grows a b → b.levels ≡ a.levels → (file : File) (spots : FileSpots) (parts : List ℕ) (init acc : ℕ) → AreDiagrams a file spots parts init acc → AreDiagrams b file spots parts init acc
 diagrams-grow a b grow levels file spots parts init acc are = record {
@@ -73,8 +76,8 @@ diagrams-grow a b grow levels file spots parts init acc are = record {
 pub file-words : (t : Table) (file : File) (spots : FileSpots) (parts : List ℕ) (init acc : ℕ) (keep : List ℕ) → AreDiagrams t file spots parts init acc
     → ((k : ℕ) → is_in keep k ≡ is_in (all_levels spots.letters) k)
     → (word : BitWord) → HasRun (relation_of t parts init acc keep spots.back) word ↔ FileWords file (map (spelled spots.letters) word)
-file-words t (NetFile net) spots parts init acc keep are letters word =
-    same-words t net spots parts init acc keep (record {
+file-words t file spots parts init acc keep are letters word =
+    same-words t file spots parts init acc keep (record {
       sound = are.sound;
       placed = are.placed;
       steps = are.steps;
@@ -91,11 +94,16 @@ chosen-letter names valuation (s ∷ signals) over known =
 net-word : (net : Net) → IsSound net → (word : Word) (q : List ℕ) → RunsFrom (Steps net) (IsAccepting net) q word → IsWord (letters_of net) word
 net-word net sound [] q run = tt
 net-word net sound (a ∷ word) q (r, step, run) =
-    (subst (IsLetter (letters_of net)) step.letter (chosen-letter net.names step.valuation (letter_signals net) step.values (letters_known net sound)), net-word net sound word r run)
+    (subst (IsLetter (letters_of net)) step.letter (chosen-letter net.names step.valuation (letter_signals net) step.values (letters_known net (wired_of net sound))), net-word net sound word r run)
+
+machine-word : (machine : Machine) (word : Word) (q : ℕ) → RunsFrom (MachineSteps machine) (λ s. Unit {0}) q word → IsWord (machine_letters machine) word
+machine-word machine [] q run = tt
+machine-word machine (a ∷ word) q (r, step, run) = (step.letter, machine-word machine word r run)
 
 pub word-of-file : (file : File) → IsSoundFile file → (word : Word) → FileWords file word → IsWord (file_letters file) word
 word-of-file (NetFile net) sound word (q, initial, run) = net-word net sound word q run
+word-of-file (MachineFile machine) sound word (q, initial, run) = machine-word machine word q run
 
 -- the codes of its letters are single variables, those of its letters
 pub letter-spots : (t : Table) (file : File) (spots : FileSpots) → IsSoundFile file → IsFilePlaced t file spots → AreSpots spots.letters
-letter-spots t (NetFile net) spots sound placed = placed-net.letters-are t net spots sound placed
+letter-spots t file spots sound placed = placed-net.wired-are t (outline file) spots (file-wired file sound) placed

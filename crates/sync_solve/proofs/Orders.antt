@@ -10,7 +10,7 @@ use Rattle.bdd_ops.proofs.Members.{at-place}
 use Rattle.bdd_walk.proofs.Lists.{AllPairs-append}
 use Rattle.mv_encoding.specs.Spots.{all_levels}
 use Rattle.mv_encoding.proofs.Ranges.{range-in}
-use Rattle.net_model.specs.Problems.{File, NetFile}
+use Rattle.net_model.specs.Problems.{File}
 use Rattle.net_frame.specs.Placing.{FileSpots}
 use Rattle.frame_words.specs.Levels.{LiesAround}
 use Rattle.subset_build.specs.Relations.{AreInOrder, present_of}
@@ -38,14 +38,14 @@ pub record LiesBehind (t : Table) (start : ℕ) (back : List (ℕ × ℕ)) : Typ
   pub apart : (k : ℕ) → is_in (sources back) k ≡ true → is_in (present_of back) k ≡ false
 
 pub behind-file : (t : Table) (start : ℕ) (file : File) (spots : FileSpots) (parts : List ℕ) (init acc : ℕ) → AreDiagrams t file spots parts init acc → LiesAround t start spots → LiesBehind t start spots.back
-behind-file t start (NetFile net) spots parts init acc are around = record {
+behind-file t start file spots parts init acc are around = record {
   rises = are.placed.rises;
   next = λ k member. around.next k (sym (are.placed.sources_are k) ∙ member);
   now = λ k member. around.present k (sym (are.placed.targets_are k) ∙ member);
   apart = λ k member. elim (decided (is_in (present_of spots.back) k)) [
     | inl there ↦
         absurd (true≢false (sym (sym (are.placed.sources_are k) ∙ member)
-        ∙ across t net spots parts init acc (all_levels spots.letters) (record { sound = are.sound; placed = are.placed; steps = are.steps; initial = are.initial; accepting = are.accepting; letters = λ k. refl }) k
+        ∙ across t file spots parts init acc (all_levels spots.letters) (record { sound = are.sound; placed = are.placed; steps = are.steps; initial = are.initial; accepting = are.accepting; letters = λ k. refl }) k
         (sym (are.placed.targets_are k) ∙ there)))
     | inr out ↦ out
   ];

@@ -12,10 +12,12 @@ use Rattle.net_model.specs.Words.{Scope, Word, IsLetter, IsWord}
 use Rattle.net_model.specs.Equation.{IsSafe}
 use Rattle.net_model.specs.Topologies.{topology_by}
 use Rattle.net_model.specs.NetLanguages.{letter_signals}
-use Rattle.net_model.specs.Problems.{File, NetFile, Problem, IsBuilt, IsSoundFile, file_letters}
+use Rattle.net_model.specs.Problems.{File, Problem, IsBuilt, IsSoundFile, file_letters}
 use Rattle.net_model.specs.declared.class.Mode.{Mode}
 use Rattle.net_model.specs.declared.class.Mode.TheVariants.{Sync, Parallel}
-use Rattle.net_model.proofs.Letters.{letters_known}
+use Rattle.net_model.specs.Outlines.{outline}
+use Rattle.net_model.proofs.Outlined.{file-wired, outline-letters}
+use Rattle.net_relation.proofs.PlacedNet.{wired-variables}
 use Rattle.net_frame.specs.Placing.{FileSpots}
 use Rattle.net_frame.specs.Frames.{Frame, FitsProblem, IsFilePlaced}
 use Rattle.net_relation.proofs.PlacedNet.{scope-at, spots-long}
@@ -56,17 +58,8 @@ x-laid t frame order k within =
 
 -- the variables of a file's letters
 
-chosen-variables : (spots : List Layout) (names : Scope) → map (λ spot. spot.scope) spots ≡ map (λ v. v ∷ []) names → (signals : List ℕ) → All (λ s. s < length names) signals → variables_at (spots_at spots signals) ≡ chosen_of names signals
-chosen-variables spots names are [] known = refl
-chosen-variables spots names are (s ∷ signals) known =
-    let within = All-head (λ s. s < length names) s signals known in
-    let long = spots-long spots names are in
-    let here : variable_at (spot_at spots s).scope 0 ≡ variable_at names s = ap (λ (scope : Scope). variable_at scope 0) (scope-at spots names are s (omega (arith, within, long))) in
-    let rest = chosen-variables spots names are signals (All-tail (λ s. s < length names) s signals known) in
-    λ i. here i ∷ rest i
-
 letter-variables : (t : Table) (file : File) (spots : FileSpots) → IsSoundFile file → IsFilePlaced t file spots → variables_at spots.letters ≡ file_letters file
-letter-variables t (NetFile net) spots sound placed = ap variables_at placed.letters ∙ chosen-variables spots.signals net.names placed.signals (letter_signals net) (letters_known net sound)
+letter-variables t file spots sound placed = wired-variables t (outline file) spots (file-wired file sound) placed ∙ outline-letters file
 
 -- the scopes of a problem are those of its files
 

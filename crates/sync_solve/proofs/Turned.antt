@@ -8,7 +8,9 @@ use Rattle.bdd_ops.specs.Levels.{is_in, SameAt}
 use Rattle.bdd_ops.specs.Meaning.{StandsFor, DependsOn}
 use Rattle.mv_encoding.specs.Layouts.{Layout, levels_of, is_letter}
 use Rattle.mv_encoding.specs.Spots.{AreLaid, all_levels, spelled, spell_values}
-use Rattle.net_model.specs.Problems.{File, NetFile, IsSoundFile}
+use Rattle.net_model.specs.Outlines.{outline}
+use Rattle.net_model.proofs.Outlined.{file-wired}
+use Rattle.net_model.specs.Problems.{File, IsSoundFile}
 use Rattle.net_frame.specs.Placing.{FileSpots}
 use Rattle.net_frame.specs.Frames.{IsFilePlaced}
 use Rattle.net_relation.proofs.PlacedNet as placed-net
@@ -29,7 +31,7 @@ values-same (spot ∷ spots) u v same =
     && values-same spots u v (λ k member. same k (in-right (levels_of spot) (all_levels spots) k member)) i
 
 pub file-letters-laid : (t : Table) (file : File) (spots : FileSpots) → IsSoundFile file → IsFilePlaced t file spots → AreLaid t spots.letters
-file-letters-laid t (NetFile net) spots sound placed = placed-net.letters-laid t net spots sound placed
+file-letters-laid t file spots sound placed = placed-net.wired-laid t (outline file) spots (file-wired file sound) placed
 
 -- the moves stay as they are
 pub turned-rule : (t : Table) (letters : Bits → Bool) (det : List State) → MeetsRule t letters det → MeetsRule t letters (map turned det)

@@ -2,16 +2,11 @@
 use Rattle.std.specs.Prelude.{ℕ, List, ◌++◌}
 use Rattle.node_table.specs.Table.{Table}
 use Rattle.mv_encoding.specs.Spots.{all_levels, StandsForValues}
-use Rattle.net_model.specs.Words.{Language}
-use Rattle.net_model.specs.NetLanguages.{NetWords}
-use Rattle.net_model.specs.Problems.{File, NetFile, IsSoundFile}
+pub use Rattle.net_model.specs.Files.{FileWords}
+use Rattle.net_model.specs.Problems.{File, IsSoundFile}
 use Rattle.net_frame.specs.Placing.{FileSpots}
 use Rattle.net_frame.specs.Frames.{IsFilePlaced}
 use Rattle.net_relation.specs.Relations.{AreFor, file_meanings, StandsForFileSteps, IsInitialOf, IsAcceptingOf}
-
--- what a file means
-abbrev pub FileWords : File → Language
-FileWords (NetFile net) = NetWords net
 
 -- the levels of a file's signals and of its states
 abbrev pub file_levels : FileSpots → List ℕ

@@ -13,6 +13,7 @@ use Rattle.net_relation.specs.States.{accepting_meanings}
 use Rattle.net_relation.proofs.Added.{added-so}
 use Rattle.net_relation.proofs.Spelled.{nowhere}
 use Rattle.net_relation.proofs.PlacedNet as placed-net
+use Rattle.net_relation.proofs.PlacedNet.{spot-is}
 use Rattle.net_relation.proofs.accepting_states.accepting_parts.Goals as goal
 
 pub add_table-requires-clause-signals : goal.add_table-requires-clause-signals
@@ -38,9 +39,6 @@ bounds-signals-signal c =
     let known = placed-net.acc-known c.args.space.now (net_of c.args.net.now) (spots_in c.args.frame.now c.args.slot) c.requires.sound c.requires.placed c.args.signal.0 c.requires.acc in
     let same = ap length c.signal_codings-signals.ensures in
     omega (arith, known, same)
-
-spot-is : (signals spots : List Layout) → signals ≡ spots → (signal : ℕ) (spot : Layout) → signal < length spots → spot ≡ get_or signals signal spot → spot ≡ spot_at spots signal
-spot-is signals spots same signal spot known is = is ∙ ap (λ l. get_or l signal spot) same ∙ get_or_default spots signal spot nowhere known
 
 pub cube-one-requires-clause-var : goal.cube-one-requires-clause-var
 cube-one-requires-clause-var c =

@@ -16,11 +16,11 @@ pub all_values-requires : goal.all_values-requires
 all_values-requires c =
     let spots : FileSpots = spots_in c.args.frame.now c.args.slot in
     let P : List Layout → Type 0 = λ l. AreLaid c.args.space.now l in
-    subst P (sym c.present_codings.ensures) (left-laid c.args.space.now spots.present spots.next c.requires.placed.states_laid)
+    subst P (sym c.present_codings.ensures) c.requires.laid
 
 pub returns-in-Ok-clause-states : goal.returns-in-Ok-clause-states
 returns-in-Ok-clause-states c =
     let new : Nodes = c.all_values.new.space in
     let spots : FileSpots = spots_in c.args.frame.now c.args.slot in
     let P : List Layout → Type 0 = λ l. StandsFor new c.in-Ok.r (spell_values l) in
-    all-values-set new spots.present (spots-of spots.present (states_of (net_of c.args.net.now)) c.requires.placed.present).0 c.in-Ok.r (subst P c.present_codings.ensures c.in-Ok.ensures.ok)
+    all-values-set new spots.present c.requires.spots c.in-Ok.r (subst P c.present_codings.ensures c.in-Ok.ensures.ok)

@@ -1,5 +1,0 @@
-use Rattle.relation_words.proofs.Runs.{same-words}
-use Rattle.relation_words.proofs.laws.relations_have_the_words_of_networks.Goals as goal
-
-pub returns : goal.returns
-returns c t net spots parts init acc keep is word = same-words t net spots parts init acc keep is word
